@@ -1,0 +1,12 @@
+//! Objects of the ELF format for 32-bit Arm, and the refusals of everything that reads or writes them.
+#![tactic(auto)]
+
+mod bytes;
+mod names;
+mod objects;
+mod refusals;
+
+pub use bytes::Bytes;
+pub use names::Name;
+pub use objects::{Home, MapRow, Object, Reloc, RelocKind, RowKind, Section, Symbol};
+pub use refusals::{Deny, Limit, Refusal, Spot};
