@@ -1,2 +1,6 @@
 pub mod Constants
+pub mod Fields
 pub mod Objects
+pub mod Files
+pub mod Canonical
+pub mod Maps

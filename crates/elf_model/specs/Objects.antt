@@ -8,7 +8,7 @@ use Rattle.elf_model.specs.declared.objects.Reloc.{Reloc}
 use Rattle.elf_model.specs.declared.objects.RelocKind.{RelocKind}
 use Rattle.elf_model.specs.declared.objects.RelocKind.TheVariants.{Abs32, Target1, ThmCall, ThmJump24, MovwAbs, MovtAbs, ThmJump19, ThmJump11, ThmJump8, Other}
 use Rattle.elf_model.specs.declared.objects.Home.{Home}
-use Rattle.elf_model.specs.declared.objects.Home.TheVariants.{Undefined, Absolute} 
+use Rattle.elf_model.specs.declared.objects.Home.TheVariants.{Undefined, Absolute}
 use Rattle.elf_model.specs.declared.objects.Home.TheVariants as home
 use Rattle.elf_model.specs.Constants.{progbits, note, nobits, init_array, fini_array, arm_attributes, local, func}
 

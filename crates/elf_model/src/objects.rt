@@ -2,9 +2,8 @@
 
 ghost use Rattle.std.specs.Prelude.{◌≡◌};
 
-use std::marker::Model;
-
 use crate::{Bytes, Name};
+use std::marker::Model;
 
 /// A section. `size` is the number of its bytes in memory, of which a section of type NOBITS has none
 /// in the file; `entry` is the size of an entry where it is a table (ELF, section header).
