@@ -3,13 +3,12 @@
 
 mod endings;
 
-pub use endings::Ending;
-
 ghost use Rattle.std.specs.Prelude.{◌≡◌, ◌≢◌, ◌↔◌, ◌+◌, List, [], ◌∷◌, ℕ, map, Some, IsTrue, IsSome, string_bytes};
 ghost use Rattle.elf_read.specs.FirstForm.{HasFirstForm};
 ghost use Rattle.guard_cli.specs.Words.{Pair, IsHarden, IsCommand};
 ghost use Rattle.guard_cli.specs.Runs.{files_seen, screen_seen, EndsAs, IsMisused, IsRefusedAtOnce, CountsGrow, CountsStay, IsCalm, IsDoneOrNoMemory};
 
+pub use endings::Ending;
 use guard_io::{Shelf, Sink};
 use std::alloc::Global;
 
