@@ -4,3 +4,4 @@ pub mod Objects
 pub mod Files
 pub mod Canonical
 pub mod Maps
+pub mod Refusals
