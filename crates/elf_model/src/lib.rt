@@ -2,11 +2,16 @@
 #![tactic(auto)]
 
 mod bytes;
+mod checks;
 mod names;
 mod objects;
 mod refusals;
 
 pub use bytes::Bytes;
+pub use checks::{is_code, object, within};
 pub use names::Name;
 pub use objects::{Home, MapRow, Object, Reloc, RelocKind, RowKind, Section, Symbol};
 pub use refusals::{Deny, Limit, Refusal, Spot};
+
+#[cfg(test)]
+mod tests;
