@@ -1,1 +1,4 @@
 mod Examples
+mod FieldsRead
+mod Laid
+mod FileRead
