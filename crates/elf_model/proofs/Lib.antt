@@ -2,3 +2,4 @@ mod Examples
 mod FieldsRead
 mod Laid
 mod FileRead
+mod Strings
