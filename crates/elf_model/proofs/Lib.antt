@@ -3,3 +3,4 @@ mod FieldsRead
 mod Laid
 mod FileRead
 mod Strings
+mod Lists

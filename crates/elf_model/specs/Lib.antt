@@ -3,4 +3,5 @@ pub mod Fields
 pub mod Objects
 pub mod Files
 pub mod Canonical
+pub mod Fits
 pub mod Maps
