@@ -4,3 +4,4 @@ mod Laid
 mod FileRead
 mod Strings
 mod Lists
+mod Sections
