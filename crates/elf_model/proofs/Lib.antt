@@ -5,3 +5,4 @@ mod FileRead
 mod Strings
 mod Lists
 mod Sections
+mod Written
