@@ -6,3 +6,5 @@ mod Strings
 mod Lists
 mod Sections
 mod Written
+mod Headers
+mod Kept
