@@ -130,14 +130,22 @@ module _ (b : List ℕ) (names : List (List ℕ)) (ss : List FileSection) (table
       header_read b names (place_of 52 ss i) h s (header_rows names (end_of (place_of 52 ss i) s) (drop (suc i) ss))
           (place_read i h n ∙ row_at names 52 ss i s e) (row_fits i s e) (start_fits i s e)
 
+  -- a section's bytes stand at its offset
+  pub bytes_there : (i h : ℕ) (s : FileSection) → h ≡ i + 1 → slice_get ss i ≡ Some s → s.kind ≢ nobits → (rest : List ℕ) × (drop (header b h).offset b ≡ s.bytes ++ rest)
+  bytes_there i h s n e k =
+      let r = header_at i h s n e in
+      let post : List ℕ = replicate (table - laid_end 52 ss) 0 ++ (replicate 40 0 ++ header_rows names 52 ss) in
+      (
+        laid (end_of (place_of 52 ss i) s) (drop (suc i) ss) ++ post,
+        ap (λ (p : ℕ). drop p b) (r.offset k) ∙ ap (drop (start_of (place_of 52 ss i) s)) f.bytes
+        ∙ contents_at (file_header table (1 + length ss) number flags) 52 ss post i s refl f.aligned e k
+      )
+
   pub contents_read : (i h : ℕ) (s : FileSection) → h ≡ i + 1 → slice_get ss i ≡ Some s → s.kind ≢ nobits → contents b h ≡ s.bytes
   contents_read i h s n e k =
       let r = header_at i h s n e in
-      let post : List ℕ = replicate (table - laid_end 52 ss) 0 ++ (replicate 40 0 ++ header_rows names 52 ss) in
-      let there : drop (header b h).offset b ≡ s.bytes ++ (laid (end_of (place_of 52 ss i) s) (drop (suc i) ss) ++ post) =
-      ap (λ (p : ℕ). drop p b) (r.offset k) ∙ ap (drop (start_of (place_of 52 ss i) s)) f.bytes
-      ∙ contents_at (file_header table (1 + length ss) number flags) 52 ss post i s refl f.aligned e k in
-      ap (take (header b h).size) there ∙ take_at s.bytes (laid (end_of (place_of 52 ss i) s) (drop (suc i) ss) ++ post) (header b h).size (sym (All_at IsSized ss i s f.sized e k) ∙ sym r.size)
+      let t = bytes_there i h s n e k in
+      ap (take (header b h).size) t.1 ∙ take_at s.bytes t.0 (header b h).size (sym (All_at IsSized ss i s f.sized e k) ∙ sym r.size)
 
   pub inside_read : (i h : ℕ) (s : FileSection) → h ≡ i + 1 → slice_get ss i ≡ Some s → s.kind ≢ nobits → (header b h).offset + (header b h).size ≤ length b
   inside_read i h s n e k =

@@ -14,7 +14,7 @@ use Rattle.elf_model.specs.Canonical.{FileSection, file_sections, section_names,
 use Rattle.elf_model.specs.Fits.{Fits}
 use Rattle.elf_model.proofs.Laid.{place_of}
 use Rattle.elf_model.proofs.FieldsRead.{IsHeader}
-use Rattle.elf_model.proofs.FileRead.{IsFile, header_at, contents_read, count_read, number_read}
+use Rattle.elf_model.proofs.FileRead.{IsFile, header_at, bytes_there, contents_read, count_read, number_read}
 use Rattle.elf_model.proofs.Lists.{All_at, get_right, there, from-append, filter_kept, filter_dropped, count_from}
 use Rattle.elf_model.proofs.Sections.{SectionFacts, not_symtab, not_strtab, not_rel, not_exidx}
 use Rattle.elf_model.proofs.Strings.{StandsAt, has_no_nul, text_read, name_inside, nul_behind, name_at}
@@ -77,6 +77,9 @@ module _ (o : ObjectParts) (b : List ℕ) (r : Reading o b) where
 
   pub bytes_of : (i h : ℕ) (s : FileSection) → h ≡ i + 1 → slice_get (file_sections o) i ≡ Some s → s.kind ≢ nobits → contents b h ≡ s.bytes
   bytes_of = contents_read b (section_names o) (file_sections o) (table_place o) (shstrtab_header o) o.flags r.file
+
+  pub drop_there : (i h : ℕ) (s : FileSection) → h ≡ i + 1 → slice_get (file_sections o) i ≡ Some s → s.kind ≢ nobits → (rest : List ℕ) × (drop (header b h).offset b ≡ s.bytes ++ rest)
+  drop_there = bytes_there b (section_names o) (file_sections o) (table_place o) (shstrtab_header o) o.flags r.file
 
   pub names_table : half_at b 50 ≡ shstrtab_header o
   names_table = number_read b (section_names o) (file_sections o) (table_place o) (shstrtab_header o) o.flags r.file

@@ -8,3 +8,4 @@ mod Sections
 mod Written
 mod Headers
 mod Kept
+mod Symbols

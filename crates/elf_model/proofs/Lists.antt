@@ -1,12 +1,12 @@
 -- Lists by number, and lists of numbers from one on.
 use Rattle.std.proofs.Common.{◌≡◌, ◌≢◌, ◌≤◌, ◌<◌, ℕ, zero, suc, ◌+◌, ◌-◌, Bool, true, false, cond, not, List, [], ◌∷◌, ◌++◌, length, get_or, Option, Some, None, refl, sym, ap, ◌∙◌, subst, inl, inr, ◌⊎◌, arith, map, filter}
-use Rattle.std.specs.Prelude.{slice_get, All, count_by, find, nat_lt}
+use Rattle.std.specs.Prelude.{slice_get, All, count_by, find, nat_lt, ◌==◌}
 use Rattle.std.specs.List.{list_all, list_any}
 use Rattle.std.proofs.lemmas.List.{length-append}
 use Rattle.std.proofs.lemmas.List.Elements.{All-nil, All-cons, All-head, All-tail}
 use Rattle.std.proofs.lemmas.List.Recursion.{is_count_by}
 use Rattle.std.proofs.lemmas.Option.{none-some, same_Some, slice_get-get_or, slice_get_within, get_or_from_slice_get}
-use Rattle.std.proofs.lemmas.Bool.{and_parts, cases_lt, lt-ltb, le-ltb}
+use Rattle.std.proofs.lemmas.Bool.{and_parts, cases_lt, cases_eq, lt-ltb, le-ltb, eq-eqb, or_left, or_right}
 use Rattle.elf_model.specs.Files.{from}
 
 pub All_at : {X : Type 0} (P : X → Type 0) (xs : List X) (i : ℕ) (x : X) → All P xs → slice_get xs i ≡ Some x → P x
@@ -105,3 +105,24 @@ map_from f first (x ∷ xs) a =
     let one : f first ≡ x = ap f (sym same) ∙ a 0 x refl in
     let rest = map_from f (first + 1) xs (λ i y e. let s : (first + 1) + i ≡ first + suc i = omega arith in ap f s ∙ a (suc i) y e) in
     ap (λ (y : _). y ∷ map f (from (first + 1) (length xs))) one ∙ ap (λ (r : List _). x ∷ r) rest
+
+-- all that f makes of these numbers passes
+pub filter_made : {X : Type 0} (p : X → Bool) (f : ℕ → X) (first n : ℕ) → ((k : ℕ) → first ≤ k → k < first + n → p (f k) ≡ true) → filter p (map f (from first n)) ≡ map f (from first n)
+filter_made p f first zero a = refl
+filter_made p f first (suc n) a =
+    let one : p (f first) ≡ true = a first (omega arith) (omega arith) in
+    ap (λ (t : Bool). cond t (f first ∷ filter p (map f (from (first + 1) n))) (filter p (map f (from (first + 1) n)))) one
+    ∙ ap (λ (r : List _). f first ∷ r) (filter_made p f (first + 1) n (λ k l u. a k (omega arith) (omega arith)))
+
+-- a number is among those from one on
+pub any_from : (first n k : ℕ) → first ≤ k → k < first + n → list_any (λ h. k == h) (from first n) ≡ true
+any_from first zero k l u = absurd (omega arith)
+any_from first (suc n) k l u =
+    elim (cases_eq k first) [
+      inl y ↦ or_left (k == first) (list_any (λ h. k == h) (from (first + 1) n)) (eq-eqb k first y)
+      | inr d ↦ or_right (k == first) (list_any (λ h. k == h) (from (first + 1) n)) (any_from (first + 1) n k (omega arith) (omega arith))
+    ]
+
+pub map-map : {X Y Z : Type 0} (f : Y → Z) (g : X → Y) (xs : List X) → map f (map g xs) ≡ map (λ x. f (g x)) xs
+map-map f g [] = refl
+map-map f g (x ∷ xs) = ap (λ (r : List _). f (g x) ∷ r) (map-map f g xs)

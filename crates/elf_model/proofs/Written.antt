@@ -16,7 +16,7 @@ use Rattle.elf_model.specs.Canonical.{FileSection, canonical, file_sections, sec
 use Rattle.elf_model.specs.Fits.{Fits, SectionFits}
 use Rattle.elf_model.proofs.Laid.{IsAligned, round_up_above}
 use Rattle.elf_model.proofs.FileRead.{IsFile, FitsMost, IsSized, NameFits, file_of, contents_short}
-use Rattle.elf_model.proofs.Lists.{All_at, All_from_test, get_left, get_right, get_map}
+use Rattle.elf_model.proofs.Lists.{All_at, All_from_test, get_left, get_right, get_map, map-map}
 use Rattle.elf_model.proofs.Sections.{SectionFacts, section_facts, full_size}
 use Rattle.elf_model.proofs.Strings.{name_at, name_inside}
 
@@ -118,10 +118,6 @@ table_at o j k e =
     let rels = length-map (relocated o 0 o.sections) (reloc_section o) in
     get_right (map own_section o.sections ++ map (reloc_section o) (relocated o 0 o.sections)) (tables_of o) j k
         (omega (arith, length-append (map own_section o.sections) (map (reloc_section o) (relocated o 0 o.sections)), own, rels, e))
-
-map-map : {X Y Z : Type 0} (f : Y → Z) (g : X → Y) (xs : List X) → map f (map g xs) ≡ map (λ x. f (g x)) xs
-map-map f g [] = refl
-map-map f g (x ∷ xs) = ap (λ (r : List _). f (g x) ∷ r) (map-map f g xs)
 
 -- the names that the last table holds are those of the file's sections
 pub names_of : (o : ObjectParts) → section_names o ≡ map (λ (s : FileSection). s.name) (file_sections o)

@@ -1,0 +1,100 @@
+-- The symbols that are read of a canonical file are the object's.
+use Rattle.std.proofs.Common.{◌≡◌, ◌≢◌, ◌≤◌, ◌<◌, ℕ, zero, suc, ◌+◌, ◌-◌, ◌*◌, ◌/◌, ◌%◌, ◌^◌, Bool, true, false, cond, not, ◌&&◌, ◌||◌, List, [], ◌∷◌, ◌++◌, length, get_or, drop, replicate, Option, Some, None, refl, sym, ap, ◌∙◌, subst, inl, inr, arith, eqb, map, filter}
+use Rattle.std.specs.Prelude.{slice_get, All, ◌==◌, if◌then◌else◌, count_by, nat_lt, nat_le, codes, find}
+use Rattle.std.specs.List.{list_any, flat_map}
+use Rattle.std.proofs.Math.Nat.{mod-eq_of_lt, mul-add-mod_self_right}
+use Rattle.std.proofs.lemmas.Nat.{div-mul-add}
+use Rattle.std.proofs.lemmas.List.{append_assoc, drop-drop, get_or-drop, length-append, length-map}
+use Rattle.std.proofs.lemmas.List.Elements.{All-append, All-map}
+use Rattle.std.proofs.lemmas.Option.{none-some, same_Some, slice_get_past}
+use Rattle.std.proofs.lemmas.Bool.{and_parts, cases_eq, cases_lt, ne_eqb, eq-eqb, leb-true, false≢true, or_right}
+use Rattle.elf_model.specs.declared.objects.Section.{Section}
+use Rattle.elf_model.specs.declared.objects.Symbol.{Symbol}
+use Rattle.elf_model.specs.declared.objects.Home.{Home}
+use Rattle.elf_model.specs.declared.objects.Home.TheVariants as home
+use Rattle.elf_model.specs.Constants.{symtab, strtab, rel, undefined_index, absolute_index}
+use Rattle.elf_model.specs.Fields.{byte_at, half_at, word_at}
+use Rattle.elf_model.specs.Objects.{ObjectParts, is_symbol, is_name, has_home, is_at_home}
+use Rattle.elf_model.specs.Files.{header, header_count, headers, contents, text_at, from, symbol_table, symbol_places, kept_headers, is_kept_symbol, kept_symbols, home_of, section_number, symbol_name, symbol_of}
+use Rattle.elf_model.specs.Canonical.{FileSection, file_sections, own_section, reloc_section, relocated, symtab_section, strings_section, symbol_names, section_names, symbol_row, home_index, symtab_header, strtab_header, string_table, name_offset}
+use Rattle.elf_model.specs.Fits.{SymbolFits}
+use Rattle.elf_model.proofs.FieldsRead.{word_read, half_read, drop_further}
+use Rattle.elf_model.proofs.Lists.{All_at, there, get_left, get_right, get_map, find_from, filter_made, any_from, map_from, map-map}
+use Rattle.elf_model.proofs.Sections.{SectionFacts, NameFacts, name_facts, not_symtab}
+use Rattle.elf_model.proofs.Strings.{StandsAt, name_at, name_inside}
+use Rattle.elf_model.proofs.Written.{ObjectFacts, tables_of, table_at, count_sections}
+use Rattle.elf_model.proofs.Headers.{Reading, head, bytes_of, drop_there, header_total, text_found}
+use Rattle.elf_model.proofs.Kept.{kept_are, number_is}
+
+pub record SymbolFacts (sections : List Section) (s : Symbol) : Type 0 where
+  pub name : NameFacts s.name
+  pub bind : s.bind ≤ 2
+  pub kind : s.kind ≤ 4
+  pub home : has_home sections s s.home ≡ true
+
+pub symbol_facts : (sections : List Section) (s : Symbol) → is_symbol sections s ≡ true → SymbolFacts sections s
+symbol_facts sections s h =
+    let a = and_parts (is_name s.name && nat_le s.bind 2 && nat_le s.kind 4) (has_home sections s s.home) h in
+    let c = and_parts (is_name s.name && nat_le s.bind 2) (nat_le s.kind 4) a.0 in
+    let d = and_parts (is_name s.name) (nat_le s.bind 2) c.0 in
+    record { name = name_facts s.name d.0; bind = leb-true s.bind 2 d.1; kind = leb-true s.kind 4 c.1; home = a.1 }
+
+-- only one section of a file is a symbol table
+last_tables : (o : ObjectParts) (j : ℕ) (s : FileSection) → slice_get (tables_of o) j ≡ Some s → s.kind ≡ symtab → j ≡ 0
+last_tables o zero s e k = refl
+last_tables o (suc zero) s e k = let same = ap (λ (t : FileSection). t.kind) (same_Some (strings_section (codes ".strtab") (symbol_names o)) s e) in absurd (omega (arith, same, k))
+last_tables o (suc (suc zero)) s e k = let same = ap (λ (t : FileSection). t.kind) (same_Some (strings_section (codes ".shstrtab") (section_names o)) s e) in absurd (omega (arith, same, k))
+last_tables o (suc (suc (suc j))) s e k = absurd (none-some s e)
+
+pub symtab_only : (o : ObjectParts) → ObjectFacts o → (i : ℕ) (s : FileSection) → slice_get (file_sections o) i ≡ Some s → s.kind ≡ symtab → i ≡ length o.sections + length (relocated o 0 o.sections)
+symtab_only o f i s e k =
+    let n : ℕ = length o.sections + length (relocated o 0 o.sections) in
+    let own : List FileSection = map own_section o.sections in
+    let rels : List FileSection = map (reloc_section o) (relocated o 0 o.sections) in
+    let many : length (own ++ rels) ≡ n = omega (arith, length-append own rels, length-map o.sections own_section, length-map (relocated o 0 o.sections) (reloc_section o)) in
+    let P : FileSection → Type 0 = λ (t : FileSection). t.kind ≢ symtab in
+    let front : All P (own ++ rels) = All-append P own rels (All-map P own_section o.sections (λ j d m. not_symtab (get_or o.sections j d).kind (get_or o.sections j d).flags (f.sections j d m).kept))
+        (All-map P (reloc_section o) (relocated o 0 o.sections) (λ j d m z. absurd (omega arith))) in
+    elim (cases_lt i n) [
+      inl l ↦
+        let at = there (own ++ rels) i (omega (arith, many)) in
+        let same = same_Some at.0 s (sym (get_left (own ++ rels) (tables_of o) i at.0 at.1) ∙ e) in
+        absurd (All_at P (own ++ rels) i at.0 front at.1 (ap (λ (t : FileSection). t.kind) same ∙ k))
+      | inr l ↦ let first = last_tables o (i - n) s (sym (table_at o (i - n) i (omega arith)) ∙ e) k in omega (arith, first)
+    ]
+
+-- the row of the symbol with this number
+symbol_row_at : (names : List (List ℕ)) (xs : List Symbol) (rest : List ℕ) (i : ℕ) (s : Symbol) → slice_get xs i ≡ Some s → drop (16 * i) (flat_map (symbol_row names) xs ++ rest) ≡ symbol_row names s ++ (flat_map (symbol_row names) (drop (suc i) xs) ++ rest)
+symbol_row_at names [] rest i s e = absurd (none-some s e)
+symbol_row_at names (x ∷ xs) rest zero s e = ap (λ (y : Symbol). symbol_row names y ++ (flat_map (symbol_row names) xs ++ rest)) (same_Some x s e)
+symbol_row_at names (x ∷ xs) rest (suc i) s e =
+    let more : 16 * suc i ≡ 16 + 16 * i = omega arith in
+    let all : List ℕ = flat_map (symbol_row names) (x ∷ xs) ++ rest in
+    ap (λ (n : ℕ). drop n all) more ∙ sym (drop-drop (16 * i) 16 all) ∙ symbol_row_at names xs rest i s e
+
+-- what is read of a symbol's row
+record IsRow (b : List ℕ) (e : ℕ) (names : List (List ℕ)) (s : Symbol) : Type 0 where
+  name : word_at b e ≡ name_offset names s.name
+  value : word_at b (e + 4) ≡ s.value
+  size : word_at b (e + 8) ≡ s.size
+  info : byte_at b (e + 12) ≡ s.bind * 16 + s.kind
+  other : byte_at b (e + 13) ≡ s.other
+  index : half_at b (e + 14) ≡ home_index s.home
+
+row_read : (b : List ℕ) (e : ℕ) (names : List (List ℕ)) (s : Symbol) (rest : List ℕ) → drop e b ≡ symbol_row names s ++ rest → name_offset names s.name < 2 ^ 32 → SymbolFits s → home_index s.home < 2 ^ 16 → IsRow b e names s
+row_read b e names s rest at n f h =
+    let row : List ℕ = symbol_row names s ++ rest in
+    record {
+      name = word_read b e (name_offset names s.name) (drop 4 row) at n;
+      value = word_read b (e + 4) s.value (drop 8 row) (drop_further b e 4 row at) f.value;
+      size = word_read b (e + 8) s.size (drop 12 row) (drop_further b e 8 row at) f.size;
+      info = sym (get_or-drop e b 12 0) ∙ ap (λ (l : List ℕ). get_or l 12 0) at;
+      other = sym (get_or-drop e b 13 0) ∙ ap (λ (l : List ℕ). get_or l 13 0) at;
+      index = half_read b (e + 14) (home_index s.home) rest (drop_further b e 14 row at) h;
+    }
+
+at_home_below : (sections : List Section) (s : Symbol) (i : ℕ) → is_at_home sections s (slice_get sections i) ≡ true → i < length sections
+at_home_below sections s i h = elim (cases_lt i (length sections)) [
+  inl l ↦ l
+  | inr l ↦ absurd (false≢true (subst (λ (x : Option Section). is_at_home sections s x ≡ true) (slice_get_past sections i l) h))
+]
