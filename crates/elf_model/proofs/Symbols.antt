@@ -18,7 +18,8 @@ use Rattle.elf_model.specs.Objects.{ObjectParts, is_symbol, is_name, has_home, i
 use Rattle.elf_model.specs.Files.{header, header_count, headers, contents, text_at, from, symbol_table, symbol_places, kept_headers, is_kept_symbol, kept_symbols, home_of, section_number, symbol_name, symbol_of}
 use Rattle.elf_model.specs.Canonical.{FileSection, file_sections, own_section, reloc_section, relocated, symtab_section, strings_section, symbol_names, section_names, symbol_row, home_index, symtab_header, strtab_header, string_table, name_offset}
 use Rattle.elf_model.specs.Fits.{SymbolFits}
-use Rattle.elf_model.proofs.FieldsRead.{word_read, half_read, drop_further}
+use Rattle.elf_model.proofs.Laid.{place_of}
+use Rattle.elf_model.proofs.FieldsRead.{IsHeader, word_read, half_read, drop_further}
 use Rattle.elf_model.proofs.Lists.{All_at, there, get_left, get_right, get_map, find_from, filter_made, any_from, map_from, map-map}
 use Rattle.elf_model.proofs.Sections.{SectionFacts, NameFacts, name_facts, not_symtab}
 use Rattle.elf_model.proofs.Strings.{StandsAt, name_at, name_inside}
@@ -98,3 +99,70 @@ at_home_below sections s i h = elim (cases_lt i (length sections)) [
   inl l ↦ l
   | inr l ↦ absurd (false≢true (subst (λ (x : Option Section). is_at_home sections s x ≡ true) (slice_get_past sections i l) h))
 ]
+
+home_fits : (sections : List Section) (s : Symbol) (h : Home) → length sections + 1 < 0xFF00 → has_home sections s h ≡ true → home_index h < 2 ^ 16
+home_fits sections s home.Undefined c e = omega arith
+home_fits sections s home.Absolute c e = omega arith
+home_fits sections s (home.Section i) c e = let l = at_home_below sections s i e in omega (arith, l)
+
+home_kept : (sections : List Section) (s : Symbol) (h : Home) → has_home sections s h ≡ true → list_any (λ k. home_index h == k) (undefined_index ∷ absolute_index ∷ from 1 (length sections)) ≡ true
+home_kept sections s home.Undefined e = refl
+home_kept sections s home.Absolute e = refl
+home_kept sections s (home.Section i) e =
+    let l = at_home_below sections s i e in
+    or_right (i + 1 == 0) ((i + 1 == 0xFFF1) || list_any (λ k. i + 1 == k) (from 1 (length sections)))
+        (or_right (i + 1 == 0xFFF1) (list_any (λ k. i + 1 == k) (from 1 (length sections))) (any_from 1 (length sections) (i + 1) (omega arith) (omega (arith, l))))
+
+module _ (o : ObjectParts) (b : List ℕ) (r : Reading o b) where
+  few : length o.sections + 1 < 0xFF00
+  few = let c = r.fits.count in omega (arith, c, count_sections o)
+
+  home_read : (s : Symbol) (h : Home) → has_home o.sections s h ≡ true → home_of b (home_index h) ≡ h
+  home_read s home.Undefined e = refl
+  home_read s home.Absolute e = refl
+  home_read s (home.Section i) e =
+      let l = at_home_below o.sections s i e in
+      let c = few in
+      ap (λ (t : Bool). if t then home.Undefined else if i + 1 == 0xFFF1 then home.Absolute else home.Section (section_number b (i + 1))) (ne_eqb (i + 1) 0 (λ z. absurd (omega (arith, z))))
+      ∙ ap (λ (t : Bool). if t then home.Absolute else home.Section (section_number b (i + 1))) (ne_eqb (i + 1) 0xFFF1 (λ z. absurd (omega (arith, z, l, c))))
+      ∙ ap (λ (k : ℕ). home.Section k) (number_is o b r i (i + 1) refl (omega (arith, l)))
+
+  symtab_place : (k : ℕ) → k ≡ length o.sections + length (relocated o 0 o.sections) → slice_get (file_sections o) k ≡ Some (symtab_section o)
+  symtab_place k e = table_at o 0 k (omega (arith, e))
+
+  strtab_place : (k : ℕ) → k ≡ length o.sections + length (relocated o 0 o.sections) + 1 → slice_get (file_sections o) k ≡ Some (strings_section (codes ".strtab") (symbol_names o))
+  strtab_place k e = table_at o 1 k e
+
+  pub symtab_number : (h : ℕ) → 0 < h → h < header_count b → (header b h).kind ≡ symtab → h ≡ symtab_header o
+  symtab_number h l u k =
+      let total = header_total o b r in
+      let at = there (file_sections o) (h - 1) (omega (arith, total)) in
+      let fields = head o b r (h - 1) h at.0 (omega arith) at.1 in
+      let only = symtab_only o r.facts (h - 1) at.0 at.1 (sym fields.kind ∙ k) in
+      omega (arith, only)
+
+  pub symtab_fields : IsHeader b (section_names o) (place_of 52 (file_sections o) (length o.sections + length (relocated o 0 o.sections))) (symtab_header o) (symtab_section o)
+  symtab_fields = head o b r (length o.sections + length (relocated o 0 o.sections)) (symtab_header o) (symtab_section o) (omega arith) (symtab_place (length o.sections + length (relocated o 0 o.sections)) refl)
+
+  pub symbol_table_is : symbol_table b ≡ Some (symtab_header o)
+  symbol_table_is =
+      let n : ℕ = length o.sections + length (relocated o 0 o.sections) in
+      let total = header_total o b r in
+      let all = count_sections o in
+      let many : header_count b - 1 ≡ n + 3 = omega (arith, total, all) in
+      let same : symtab_header o ≡ 1 + n = omega arith in
+      let p : ℕ → Bool = λ (h : ℕ). (header b h).kind == symtab in
+      let yes : p (1 + n) ≡ true = subst (λ (h : ℕ). p h ≡ true) same (eq-eqb (header b (symtab_header o)).kind symtab symtab_fields.kind) in
+      let no : (h : ℕ) → 1 ≤ h → h < 1 + n → p h ≡ false = λ h l u. ne_eqb (header b h).kind symtab (λ k. let only = symtab_number h (omega arith) (omega (arith, total, all)) k in absurd (omega (arith, only))) in
+      ap (λ (k : ℕ). find p (from 1 k)) many ∙ find_from p 1 (n + 3) n (omega arith) yes no ∙ ap (λ (h : ℕ). Some h) (sym same)
+
+  pub symbol_places_are : symbol_places b (symbol_table b) ≡ map (λ k. (header b (symtab_header o)).offset + 16 * k) (from 1 (length o.symbols))
+  symbol_places_are =
+      let size = symtab_fields.size in
+      let many : (header b (symtab_header o)).size / 16 - 1 ≡ length o.symbols = omega (arith, size) in
+      ap (symbol_places b) symbol_table_is ∙ ap (λ (n : ℕ). map (λ k. (header b (symtab_header o)).offset + 16 * k) (from 1 n)) many
+
+  strtab_bytes : contents b (header b (symtab_header o)).link ≡ string_table (symbol_names o)
+  strtab_bytes =
+      let n : ℕ = length o.sections + length (relocated o 0 o.sections) + 1 in
+      ap (contents b) symtab_fields.link ∙ bytes_of o b r n (strtab_header o) (strings_section (codes ".strtab") (symbol_names o)) (omega arith) (strtab_place n refl) (λ e. absurd (omega arith))
