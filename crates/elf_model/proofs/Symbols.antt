@@ -15,7 +15,7 @@ use Rattle.elf_model.specs.declared.objects.Home.TheVariants as home
 use Rattle.elf_model.specs.Constants.{symtab, strtab, rel, undefined_index, absolute_index}
 use Rattle.elf_model.specs.Fields.{byte_at, half_at, word_at}
 use Rattle.elf_model.specs.Objects.{ObjectParts, is_symbol, is_name, has_home, is_at_home}
-use Rattle.elf_model.specs.Files.{header, header_count, headers, contents, text_at, from, symbol_table, symbol_places, kept_headers, is_kept_symbol, kept_symbols, home_of, section_number, symbol_name, symbol_of}
+use Rattle.elf_model.specs.Files.{header, header_count, headers, contents, text_at, from, symbol_table, symbol_places, kept_headers, is_kept_symbol, kept_symbols, home_of, section_number, symbol_name, symbol_of, EndsAt}
 use Rattle.elf_model.specs.Canonical.{FileSection, file_sections, own_section, reloc_section, relocated, symtab_section, strings_section, symbol_names, section_names, symbol_row, home_index, symtab_header, strtab_header, string_table, name_offset}
 use Rattle.elf_model.specs.Fits.{SymbolFits}
 use Rattle.elf_model.proofs.Laid.{place_of}
@@ -23,8 +23,8 @@ use Rattle.elf_model.proofs.FieldsRead.{IsHeader, word_read, half_read, drop_fur
 use Rattle.elf_model.proofs.Lists.{All_at, there, get_left, get_right, get_map, find_from, filter_made, any_from, map_from, map-map}
 use Rattle.elf_model.proofs.Sections.{SectionFacts, NameFacts, name_facts, not_symtab}
 use Rattle.elf_model.proofs.Strings.{StandsAt, name_at, name_inside}
-use Rattle.elf_model.proofs.Written.{ObjectFacts, tables_of, table_at, count_sections}
-use Rattle.elf_model.proofs.Headers.{Reading, head, bytes_of, drop_there, header_total, text_found}
+use Rattle.elf_model.proofs.Written.{ObjectFacts, tables_of, table_at, table_short, count_sections}
+use Rattle.elf_model.proofs.Headers.{Reading, head, bytes_of, drop_there, header_total, text_found, text_ends}
 use Rattle.elf_model.proofs.Kept.{kept_are, number_is}
 
 pub record SymbolFacts (sections : List Section) (s : Symbol) : Type 0 where
@@ -166,3 +166,69 @@ module _ (o : ObjectParts) (b : List ℕ) (r : Reading o b) where
   strtab_bytes =
       let n : ℕ = length o.sections + length (relocated o 0 o.sections) + 1 in
       ap (contents b) symtab_fields.link ∙ bytes_of o b r n (strtab_header o) (strings_section (codes ".strtab") (symbol_names o)) (omega arith) (strtab_place n refl) (λ e. absurd (omega arith))
+
+  strtab_size : (header b (header b (symtab_header o)).link).size ≡ length (string_table (symbol_names o))
+  strtab_size =
+      let n : ℕ = length o.sections + length (relocated o 0 o.sections) + 1 in
+      ap (λ (h : ℕ). (header b h).size) symtab_fields.link ∙ (head o b r n (strtab_header o) (strings_section (codes ".strtab") (symbol_names o)) (omega arith) (strtab_place n refl)).size
+
+  facts_at : (i : ℕ) (s : Symbol) → slice_get o.symbols i ≡ Some s → SymbolFacts o.sections s
+  facts_at i s e = symbol_facts o.sections s (All_at (λ t. is_symbol o.sections t ≡ true) o.symbols i s r.facts.symbols e)
+
+  name_held : (i : ℕ) (s : Symbol) → slice_get o.symbols i ≡ Some s → StandsAt (string_table (symbol_names o)) (name_offset (symbol_names o) s.name) s.name
+  name_held i s e = name_at (symbol_names o) i s.name (get_map (λ (t : Symbol). t.name) o.symbols i s e)
+
+  row_of : (i k : ℕ) (s : Symbol) → k ≡ i + 1 → slice_get o.symbols i ≡ Some s → IsRow b ((header b (symtab_header o)).offset + 16 * k) (symbol_names o) s
+  row_of i k s n e =
+      let m : ℕ = length o.sections + length (relocated o 0 o.sections) in
+      let at = drop_there o b r m (symtab_header o) (symtab_section o) (omega arith) (symtab_place m refl) (λ z. absurd (omega arith)) in
+      let row : List ℕ = flat_map (symbol_row (symbol_names o)) o.symbols ++ at.0 in
+      let offset : ℕ = (header b (symtab_header o)).offset in
+      let moved : 16 * k ≡ 16 + 16 * i = omega (arith, n) in
+      let there_row : drop (offset + 16 * k) b ≡ symbol_row (symbol_names o) s ++ (flat_map (symbol_row (symbol_names o)) (drop (suc i) o.symbols) ++ at.0) =
+      drop_further b offset (16 * k) (replicate 16 0 ++ row) at.1 ∙ ap (λ (p : ℕ). drop p (replicate 16 0 ++ row)) moved ∙ sym (drop-drop (16 * i) 16 (replicate 16 0 ++ row)) ∙ symbol_row_at (symbol_names o) o.symbols at.0 i s e in
+      let facts = facts_at i s e in
+      let inside = name_inside (string_table (symbol_names o)) (name_offset (symbol_names o) s.name) s.name (name_held i s e) in
+      let short = table_short o r.facts r.fits 1 (strings_section (codes ".strtab") (symbol_names o)) refl (λ z. absurd (omega arith)) in
+      row_read b (offset + 16 * k) (symbol_names o) s (flat_map (symbol_row (symbol_names o)) (drop (suc i) o.symbols) ++ at.0) there_row
+          (omega (arith, inside, short)) (All_at SymbolFits o.symbols i s r.fits.symbols e) (home_fits o.sections s s.home few facts.home)
+
+  symbol_kept : (i k : ℕ) (s : Symbol) → k ≡ i + 1 → slice_get o.symbols i ≡ Some s → is_kept_symbol b ((header b (symtab_header o)).offset + 16 * k) ≡ true
+  symbol_kept i k s n e =
+      let row = row_of i k s n e in
+      ap (λ (x : ℕ). list_any (λ h. x == h) (undefined_index ∷ absolute_index ∷ kept_headers b)) row.index
+      ∙ ap (λ (l : List ℕ). list_any (λ h. home_index s.home == h) (undefined_index ∷ absolute_index ∷ l)) (kept_are o b r)
+      ∙ home_kept o.sections s s.home (facts_at i s e).home
+
+  -- all symbols of the file are kept
+  pub kept_symbols_are : kept_symbols b ≡ map (λ k. (header b (symtab_header o)).offset + 16 * k) (from 1 (length o.symbols))
+  kept_symbols_are =
+      ap (filter (is_kept_symbol b)) symbol_places_are ∙ filter_made (is_kept_symbol b) (λ k. (header b (symtab_header o)).offset + 16 * k) 1 (length o.symbols) (λ k l u.
+        let at = there o.symbols (k - 1) (omega arith) in
+        symbol_kept (k - 1) k at.0 (omega arith) at.1)
+
+  symbol_read : (i k : ℕ) (s : Symbol) → k ≡ i + 1 → slice_get o.symbols i ≡ Some s → symbol_of b ((header b (symtab_header o)).offset + 16 * k) ≡ s
+  symbol_read i k s n e =
+      let place : ℕ = (header b (symtab_header o)).offset + 16 * k in
+      let row = row_of i k s n e in
+      let facts = facts_at i s e in
+      let kind = facts.kind in
+      let held = subst (λ (p : ℕ). StandsAt (string_table (symbol_names o)) p s.name) (sym row.name) (name_held i s e) in
+      let name : symbol_name b (symbol_table b) place ≡ s.name = ap (λ (t : Option ℕ). symbol_name b t place) symbol_table_is ∙ text_found b (header b (symtab_header o)).link (word_at b place) (string_table (symbol_names o)) s.name strtab_bytes held facts.name.no_nul in
+      let bind : byte_at b (place + 12) / 16 ≡ s.bind = ap (λ (x : ℕ). x / 16) row.info ∙ div-mul-add s.bind 16 s.kind (omega (arith, kind)) in
+      let low : byte_at b (place + 12) % 16 ≡ s.kind = ap (λ (x : ℕ). x % 16) row.info ∙ mul-add-mod_self_right s.bind 16 s.kind ∙ mod-eq_of_lt (omega (arith, kind)) in
+      let home : home_of b (half_at b (place + 14)) ≡ s.home = ap (home_of b) row.index ∙ home_read s s.home facts.home in
+      λ j. record { name = name j; value = row.value j; size = row.size j; bind = bind j; kind = low j; other = row.other j; home = home j }
+
+  pub symbols_read : o.symbols ≡ map (symbol_of b) (kept_symbols b)
+  symbols_read =
+      sym (ap (map (symbol_of b)) kept_symbols_are ∙ map-map (symbol_of b) (λ k. (header b (symtab_header o)).offset + 16 * k) (from 1 (length o.symbols))
+      ∙ map_from (λ k. symbol_of b ((header b (symtab_header o)).offset + 16 * k)) 1 o.symbols (λ i s e. symbol_read i (1 + i) s (omega arith) e))
+
+  -- a symbol's name ends in the string table
+  pub symbol_name_ends : (i k : ℕ) (s : Symbol) → k ≡ i + 1 → slice_get o.symbols i ≡ Some s → EndsAt b (header b (symtab_header o)).link (word_at b ((header b (symtab_header o)).offset + 16 * k))
+  symbol_name_ends i k s n e =
+      let place : ℕ = (header b (symtab_header o)).offset + 16 * k in
+      let row = row_of i k s n e in
+      let held = subst (λ (p : ℕ). StandsAt (string_table (symbol_names o)) p s.name) (sym row.name) (name_held i s e) in
+      text_ends b (header b (symtab_header o)).link (word_at b place) (string_table (symbol_names o)) s.name strtab_bytes strtab_size held (facts_at i s e).name.short

@@ -134,7 +134,7 @@ behind : (o : ObjectParts) → laid_end 52 (file_sections o) ≤ table_place o
 behind o = round_up_above (laid_end 52 (file_sections o)) 4 (omega arith)
 
 -- a table's bytes are shorter than the file
-table_short : (o : ObjectParts) → ObjectFacts o → Fits o → (j : ℕ) (s : FileSection) → slice_get (tables_of o) j ≡ Some s → s.kind ≢ nobits → length s.bytes < 2 ^ 32
+pub table_short : (o : ObjectParts) → ObjectFacts o → Fits o → (j : ℕ) (s : FileSection) → slice_get (tables_of o) j ≡ Some s → s.kind ≢ nobits → length s.bytes < 2 ^ 32
 table_short o f g j s e k =
     let short = contents_short (section_names o) (file_sections o) (table_place o) (shstrtab_header o) o.flags (length o.sections + length (relocated o 0 o.sections) + j) s (behind o) (all_aligned o f) (table_at o j (length o.sections + length (relocated o 0 o.sections) + j) refl ∙ e) k in
     let all = ap length (is_written o) in
