@@ -81,7 +81,7 @@ contents_at pre at (x ∷ ss) post (suc i) s l a e k =
     ap (λ (c : List ℕ). pre ++ c) (append_assoc (chunk at x) (laid (end_of at x) ss) post) ∙ sym (append_assoc pre (chunk at x) (laid (end_of at x) ss ++ post)) in
     ap (drop (start_of (place_of (end_of at x) ss i) s)) apart ∙ contents_at (pre ++ chunk at x) (end_of at x) ss post i s long (All-tail IsAligned x ss a) e k
 
-end_above : (at : ℕ) (ss : List FileSection) → All IsAligned ss → at ≤ laid_end at ss
+pub end_above : (at : ℕ) (ss : List FileSection) → All IsAligned ss → at ≤ laid_end at ss
 end_above at ss a = omega (arith, length-laid at ss a)
 
 pub contents_inside : (at : ℕ) (ss : List FileSection) (i : ℕ) (s : FileSection) → All IsAligned ss → slice_get ss i ≡ Some s → s.kind ≢ nobits → start_of (place_of at ss i) s + length s.bytes ≤ laid_end at ss

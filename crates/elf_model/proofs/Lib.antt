@@ -9,3 +9,4 @@ mod Written
 mod Headers
 mod Kept
 mod Symbols
+mod Tables

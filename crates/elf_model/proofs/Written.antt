@@ -58,13 +58,17 @@ abbrev pub tables_of : ObjectParts → List FileSection
 tables_of o = symtab_section o ∷ strings_section (codes ".strtab") (symbol_names o) ∷ strings_section (codes ".shstrtab") (section_names o) ∷ []
 
 -- what holds of each kind of section holds of all of a file
-pub each_section : (P : FileSection → Type 0) (o : ObjectParts) → All (λ s. P (own_section s)) o.sections → All (λ p. P (reloc_section o p)) (relocated o 0 o.sections) → P (symtab_section o) → ((name : List ℕ) (names : List (List ℕ)) → P (strings_section name names)) → All P (file_sections o)
-each_section P o a b c d =
+pub each_named : (P : FileSection → Type 0) (o : ObjectParts) → All (λ s. P (own_section s)) o.sections → All (λ p. P (reloc_section o p)) (relocated o 0 o.sections) → P (symtab_section o) → P (strings_section (codes ".strtab") (symbol_names o)) → P (strings_section (codes ".shstrtab") (section_names o)) → All P (file_sections o)
+each_named P o a b c d e =
     All-append P (map own_section o.sections ++ map (reloc_section o) (relocated o 0 o.sections)) (tables_of o)
         (All-append P (map own_section o.sections) (map (reloc_section o) (relocated o 0 o.sections)) (All-map P own_section o.sections a) (All-map P (reloc_section o) (relocated o 0 o.sections) b))
         (All-cons P (symtab_section o) (strings_section (codes ".strtab") (symbol_names o) ∷ strings_section (codes ".shstrtab") (section_names o) ∷ []) c
-            (All-cons P (strings_section (codes ".strtab") (symbol_names o)) (strings_section (codes ".shstrtab") (section_names o) ∷ []) (d (codes ".strtab") (symbol_names o))
-                (All-cons P (strings_section (codes ".shstrtab") (section_names o)) [] (d (codes ".shstrtab") (section_names o)) (All-nil P))))
+            (All-cons P (strings_section (codes ".strtab") (symbol_names o)) (strings_section (codes ".shstrtab") (section_names o) ∷ []) d
+                (All-cons P (strings_section (codes ".shstrtab") (section_names o)) [] e (All-nil P))))
+
+-- the same where it holds of every table of strings
+pub each_section : (P : FileSection → Type 0) (o : ObjectParts) → All (λ s. P (own_section s)) o.sections → All (λ p. P (reloc_section o p)) (relocated o 0 o.sections) → P (symtab_section o) → ((name : List ℕ) (names : List (List ℕ)) → P (strings_section name names)) → All P (file_sections o)
+each_section P o a b c d = each_named P o a b c (d (codes ".strtab") (symbol_names o)) (d (codes ".shstrtab") (section_names o))
 
 pub all_aligned : (o : ObjectParts) → ObjectFacts o → All IsAligned (file_sections o)
 all_aligned o f =
