@@ -10,3 +10,4 @@ mod Headers
 mod Kept
 mod Symbols
 mod Tables
+pub mod Stands

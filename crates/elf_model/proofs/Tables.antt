@@ -61,6 +61,9 @@ module _ (o : ObjectParts) (b : List ℕ) (r : Reading o b) where
   symtab_is : (h : ℕ) → IsKind b h symtab → h ≡ symtab_header o
   symtab_is h k = symtab_number o b r h k.0 k.1 k.2
 
+  pub reads_flags : word_at b 36 ≡ o.flags
+  reads_flags = flags_read b (section_names o) (file_sections o) (table_place o) (shstrtab_header o) o.flags r.file
+
   pub has_format : IsArmObject b
   has_format =
       let all = total in
@@ -74,7 +77,7 @@ module _ (o : ObjectParts) (b : List ℕ) (r : Reading o b) where
         order = ap (λ (l : List ℕ). get_or l 5 0) r.file.bytes;
         relocatable = half_read b 16 1 (drop 18 whole) (ap (drop 16) r.file.bytes) (omega arith);
         machine = half_read b 18 40 (drop 20 whole) (ap (drop 18) r.file.bytes) (omega arith);
-        version = ap (λ (n : ℕ). n / 2 ^ 24) (flags_read b (section_names o) (file_sections o) (table_place o) (shstrtab_header o) o.flags r.file) ∙ eqb-true (o.flags / 2 ^ 24) 5 r.facts.version;
+        version = ap (λ (n : ℕ). n / 2 ^ 24) reads_flags ∙ eqb-true (o.flags / 2 ^ 24) 5 r.facts.version;
       }
 
   pub has_tables : HasTables b
