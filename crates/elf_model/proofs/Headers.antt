@@ -1,24 +1,24 @@
 -- The headers of a canonical file: which sections they are of, and that its names are read back.
-use Rattle.std.proofs.Common.{◌≡◌, ◌≢◌, ◌≤◌, ◌<◌, ℕ, zero, suc, ◌+◌, ◌-◌, ◌*◌, ◌^◌, Bool, true, false, cond, not, ◌&&◌, ◌||◌, List, [], ◌∷◌, ◌++◌, length, get_or, drop, Some, None, refl, sym, ap, ◌∙◌, subst, inl, inr, arith, eqb, map, filter}
-use Rattle.std.specs.Prelude.{slice_get, All, ◌==◌, if◌then◌else◌, count_by, codes, nat_lt}
+use Rattle.std.proofs.Common.{◌≡◌, ◌≢◌, ◌≤◌, ℕ, ◌+◌, ◌-◌, Bool, true, false, not, ◌&&◌, ◌||◌, List, [], ◌∷◌, ◌++◌, length, get_or, drop, Some, refl, sym, ap, ◌∙◌, subst, arith, map}
+use Rattle.std.specs.Prelude.{slice_get, All, ◌==◌, codes}
 use Rattle.std.specs.List.{before_first}
-use Rattle.std.proofs.lemmas.List.{append_assoc, append-nil, length-append, length-map, map-id}
-use Rattle.std.proofs.lemmas.List.Elements.{All-nil, All-cons, All-append, All-map, filter-append}
-use Rattle.std.proofs.lemmas.Bool.{ne_eqb, or_right, not_from_true, not_from_false}
+use Rattle.std.proofs.lemmas.List.{append_assoc, length-map}
+use Rattle.std.proofs.lemmas.List.Elements.{All-nil, All-cons, All-append, All-map}
+use Rattle.std.proofs.lemmas.Bool.{ne_eqb, or_right}
 use Rattle.elf_model.specs.declared.objects.Section.{Section}
 use Rattle.elf_model.specs.Constants.{nobits, symtab, strtab, rel, arm_exidx}
-use Rattle.elf_model.specs.Fields.{byte_at, half_at}
+use Rattle.elf_model.specs.Fields.{half_at}
 use Rattle.elf_model.specs.Objects.{ObjectParts, is_dropped_name, is_kept_kind, is_alloc}
-use Rattle.elf_model.specs.Files.{header, header_count, headers, contents, text_at, section_name, is_table, is_kept, kept_headers, section_number, from, EndsAt}
-use Rattle.elf_model.specs.Canonical.{FileSection, file_sections, section_names, own_section, reloc_section, relocated, symtab_section, symbol_names, shstrtab_header, table_place, string_table, strings_section, name_offset}
+use Rattle.elf_model.specs.Files.{header, header_count, contents, text_at, section_name, is_table, EndsAt}
+use Rattle.elf_model.specs.Canonical.{FileSection, file_sections, section_names, own_section, reloc_section, relocated, symtab_section, symbol_names, shstrtab_header, table_place, string_table, strings_section}
 use Rattle.elf_model.specs.Fits.{Fits}
 use Rattle.elf_model.proofs.Laid.{place_of}
 use Rattle.elf_model.proofs.FieldsRead.{IsHeader}
 use Rattle.elf_model.proofs.FileRead.{IsFile, header_at, bytes_there, contents_read, count_read, number_read}
-use Rattle.elf_model.proofs.Lists.{All_at, get_right, there, from-append, filter_kept, filter_dropped, count_from}
+use Rattle.elf_model.proofs.Lists.{All_at, get_right}
 use Rattle.elf_model.proofs.Sections.{SectionFacts, not_symtab, not_strtab, not_rel, not_exidx}
 use Rattle.elf_model.proofs.Strings.{StandsAt, has_no_nul, text_read, name_inside, nul_behind, name_at}
-use Rattle.elf_model.proofs.Written.{ObjectFacts, tables_of, own_at, table_at, count_sections, name_number}
+use Rattle.elf_model.proofs.Written.{ObjectFacts, tables_of, table_at, name_number}
 
 -- a name that stands in a table is read from there
 pub text_found : (b : List ℕ) (table p : ℕ) (c name : List ℕ) → contents b table ≡ c → StandsAt c p name → has_no_nul name ≡ true → text_at b table p ≡ name
@@ -65,11 +65,11 @@ table_behind o i s l e =
     let many = length-map o.sections own_section in
     let P : FileSection → Type 0 = λ (t : FileSection). is_table t.kind ≡ true in
     let all : All P (rels ++ tables_of o) = All-append P rels (tables_of o) (All-map P (reloc_section o) (relocated o 0 o.sections) (λ k d m. refl))
-        (All-cons P (symtab_section o) (strings_section (codes ".strtab") (symbol_names o) ∷ strings_section (codes ".shstrtab") (section_names o) ∷ []) refl
-            (All-cons P (strings_section (codes ".strtab") (symbol_names o)) (strings_section (codes ".shstrtab") (section_names o) ∷ []) refl
-                (All-cons P (strings_section (codes ".shstrtab") (section_names o)) [] refl (All-nil P)))) in
+    (All-cons P (symtab_section o) (strings_section (codes ".strtab") (symbol_names o) ∷ strings_section (codes ".shstrtab") (section_names o) ∷ []) refl
+    (All-cons P (strings_section (codes ".strtab") (symbol_names o)) (strings_section (codes ".shstrtab") (section_names o) ∷ []) refl
+    (All-cons P (strings_section (codes ".shstrtab") (section_names o)) [] refl (All-nil P)))) in
     All_at P (rels ++ tables_of o) (i - length o.sections) s all
-        (sym (get_right own (rels ++ tables_of o) (i - length o.sections) i (omega (arith, many, l))) ∙ ap (λ (xs : List FileSection). slice_get xs i) (sym (append_assoc own rels (tables_of o))) ∙ e)
+    (sym (get_right own (rels ++ tables_of o) (i - length o.sections) i (omega (arith, many, l))) ∙ ap (λ (xs : List FileSection). slice_get xs i) (sym (append_assoc own rels (tables_of o))) ∙ e)
 
 module _ (o : ObjectParts) (b : List ℕ) (r : Reading o b) where
   pub head : (i h : ℕ) (s : FileSection) → h ≡ i + 1 → slice_get (file_sections o) i ≡ Some s → IsHeader b (section_names o) (place_of 52 (file_sections o) i) h s

@@ -1,6 +1,6 @@
 -- The sections that are kept of a canonical file are the object's.
-use Rattle.std.proofs.Common.{◌≡◌, ◌≢◌, ◌≤◌, ◌<◌, ℕ, zero, suc, ◌+◌, ◌-◌, Bool, true, false, cond, not, ◌&&◌, ◌||◌, List, [], ◌∷◌, ◌++◌, length, Some, None, refl, sym, ap, ◌∙◌, subst, inl, inr, arith, eqb, map, filter, max}
-use Rattle.std.specs.Prelude.{slice_get, All, ◌==◌, if◌then◌else◌, count_by, nat_lt}
+use Rattle.std.proofs.Common.{◌≡◌, ◌≤◌, ℕ, ◌+◌, ◌-◌, Bool, true, false, List, [], ◌++◌, length, Some, refl, sym, ap, ◌∙◌, inl, inr, arith, map, filter, max}
+use Rattle.std.specs.Prelude.{slice_get, ◌==◌, if◌then◌else◌, count_by, nat_lt}
 use Rattle.std.proofs.Math.Nat.{max-eq_right}
 use Rattle.std.proofs.lemmas.List.{append-nil, map-id}
 use Rattle.std.proofs.lemmas.List.Elements.{filter-append}
@@ -44,11 +44,11 @@ module _ (o : ObjectParts) (b : List ℕ) (r : Reading o b) where
       let all = count_sections o in
       let many : header_count b - 1 ≡ n + m = omega (arith, total, all) in
       let own : filter (is_kept b) (from 1 n) ≡ from 1 n = filter_kept (is_kept b) 1 n (λ h l u.
-        let at = there o.sections (h - 1) (omega arith) in
-        own_kept (h - 1) h at.0 (omega arith) at.1) in
+      let at = there o.sections (h - 1) (omega arith) in
+      own_kept (h - 1) h at.0 (omega arith) at.1) in
       let others : filter (is_kept b) (from (1 + n) m) ≡ [] = filter_dropped (is_kept b) (1 + n) m (λ h l u.
-        let at = there (file_sections o) (h - 1) (omega (arith, all)) in
-        other_dropped (h - 1) h at.0 (omega arith) (omega arith) at.1) in
+      let at = there (file_sections o) (h - 1) (omega (arith, all)) in
+      other_dropped (h - 1) h at.0 (omega arith) (omega arith) at.1) in
       ap (λ (k : ℕ). filter (is_kept b) (from 1 k)) many ∙ ap (filter (is_kept b)) (from-append 1 n m) ∙ filter-append (is_kept b) (from 1 n) (from (1 + n) m)
       ∙ ap (λ (xs : List ℕ). xs ++ filter (is_kept b) (from (1 + n) m)) own ∙ ap (λ (xs : List ℕ). from 1 n ++ xs) others ∙ append-nil (from 1 n)
 
@@ -65,7 +65,7 @@ module _ (o : ObjectParts) (b : List ℕ) (r : Reading o b) where
       let name : section_name b h ≡ s.name = name_found o b r i h (own_section s) n at facts.name.no_nul in
       let align : max 1 (header b h).align ≡ s.align = ap (max 1) fields.align ∙ max-eq_right facts.aligned in
       let held : (if s.kind == nobits then [] else contents b h) ≡ s.bytes = elim (cases_eq s.kind nobits) [
-        inl y ↦ ap (λ (t : Bool). if t then [] else contents b h) (eq-eqb s.kind nobits y) ∙ sym (no_bytes s facts y)
+        | inl y ↦ ap (λ (t : Bool). if t then [] else contents b h) (eq-eqb s.kind nobits y) ∙ sym (no_bytes s facts y)
         | inr k ↦ ap (λ (t : Bool). if t then [] else contents b h) (ne_eqb s.kind nobits k) ∙ bytes_of o b r i h (own_section s) n at k
       ] in
       let bytes : (if (header b h).kind == nobits then [] else contents b h) ≡ s.bytes = ap (λ (k : ℕ). if k == nobits then [] else contents b h) fields.kind ∙ held in

@@ -1,10 +1,10 @@
 -- A name that stands in a string table is read back at its offset.
-use Rattle.std.proofs.Common.{◌≡◌, ◌≢◌, ◌≤◌, ◌<◌, ℕ, zero, suc, ◌+◌, ◌-◌, ◌*◌, Bool, true, false, not, ◌&&◌, ◌||◌, List, [], ◌∷◌, ◌++◌, length, get_or, take, drop, Some, None, refl, sym, ap, ◌∙◌, subst, inl, inr, arith, eqb, map, filter}
-use Rattle.std.specs.Prelude.{slice_get, ◌==◌, if◌then◌else◌, IsTrue}
+use Rattle.std.proofs.Common.{◌≡◌, ◌<◌, ℕ, zero, suc, ◌+◌, Bool, true, false, not, ◌||◌, List, [], ◌∷◌, ◌++◌, length, get_or, take, drop, Some, refl, sym, ap, ◌∙◌, subst, inl, inr, arith, filter}
+use Rattle.std.specs.Prelude.{slice_get, ◌==◌, if◌then◌else◌}
 use Rattle.std.specs.List.{list_any, list_all, before_first, prefix_len, flat_map}
 use Rattle.std.proofs.lemmas.List.{append_assoc, length-append, length-drop, drop_at, take_at, get_or-drop, get_or_at}
 use Rattle.std.proofs.lemmas.Option.{none-some, same_Some}
-use Rattle.std.proofs.lemmas.Bool.{and_parts, or_cases, or_left, or_right, cases_Bool, both_ways, not_from_false, false≢true}
+use Rattle.std.proofs.lemmas.Bool.{and_parts, or_left, or_right, cases_Bool, both_ways, not_from_false, false≢true}
 use Rattle.std.proofs.lemmas.Map.Views.{any-filter_same}
 use lib.Pointwise.{bytes_decides}
 use Rattle.elf_model.specs.Fields.{same_name}
@@ -50,12 +50,15 @@ among_at pre at (n ∷ names) name l h = go (λ later. among_at (pre ++ (n ++ 0 
   where
     split : pre ++ with_nuls (n ∷ names) ≡ pre ++ (n ++ 0 ∷ with_nuls names)
     split = ap (λ (r : List ℕ). pre ++ r) (append_assoc n (0 ∷ []) (with_nuls names))
+
     apart : pre ++ with_nuls (n ∷ names) ≡ (pre ++ (n ++ 0 ∷ [])) ++ with_nuls names
     apart = sym (append_assoc pre (n ++ 0 ∷ []) (with_nuls names))
+
     long : length (pre ++ (n ++ 0 ∷ [])) ≡ at + length n + 1
     long = omega (arith, length-append pre (n ++ 0 ∷ []), length-append n (0 ∷ []), l)
+
     go : (list_any (λ m. same_name m name) names ≡ true → StandsAt ((pre ++ (n ++ 0 ∷ [])) ++ with_nuls names) (offset_among (at + length n + 1) names name) name)
-      → (t : Bool) → same_name n name ≡ t → StandsAt (pre ++ with_nuls (n ∷ names)) (if t then at else offset_among (at + length n + 1) names name) name
+        → (t : Bool) → same_name n name ≡ t → StandsAt (pre ++ with_nuls (n ∷ names)) (if t then at else offset_among (at + length n + 1) names name) name
     go more true e = record {
       rest = with_nuls names;
       there = ap (drop at) split ∙ drop_at pre (n ++ 0 ∷ with_nuls names) at l ∙ ap (λ (m : List ℕ). m ++ 0 ∷ with_nuls names) (same n name e);
@@ -72,12 +75,12 @@ kept_name ([] ∷ names) c cs h = kept_name names c cs h
 kept_name ((d ∷ ds) ∷ names) c cs h = go (kept_name names c cs) (same_name (d ∷ ds) (c ∷ cs)) refl
   where
     go : (list_any (λ m. same_name m (c ∷ cs)) names ≡ true → list_any (λ m. same_name m (c ∷ cs)) (different names) ≡ true)
-      → (t : Bool) → same_name (d ∷ ds) (c ∷ cs) ≡ t → (t || list_any (λ m. same_name m (c ∷ cs)) (filter (λ m. not (same_name m (d ∷ ds))) (different names))) ≡ true
+        → (t : Bool) → same_name (d ∷ ds) (c ∷ cs) ≡ t → (t || list_any (λ m. same_name m (c ∷ cs)) (filter (λ m. not (same_name m (d ∷ ds))) (different names))) ≡ true
     go more true e = refl
     go more false e =
         let later : list_any (λ m. same_name m (c ∷ cs)) names ≡ true = subst (λ (t : Bool). (t || list_any (λ m. same_name m (c ∷ cs)) names) ≡ true) e h in
         let other : (k : List ℕ) → same_name k (c ∷ cs) ≡ true → not (same_name k (d ∷ ds)) ≡ true = λ k w. elim (cases_Bool (same_name k (d ∷ ds))) [
-          inl y ↦ absurd (both_ways (same_name (d ∷ ds) (c ∷ cs)) e ((bytes_decides (d ∷ ds) (c ∷ cs)).1 (sym (same k (d ∷ ds) y) ∙ same k (c ∷ cs) w)))
+          | inl y ↦ absurd (both_ways (same_name (d ∷ ds) (c ∷ cs)) e ((bytes_decides (d ∷ ds) (c ∷ cs)).1 (sym (same k (d ∷ ds) y) ∙ same k (c ∷ cs) w)))
           | inr y ↦ not_from_false (same_name k (d ∷ ds)) y
         ] in
         any-filter_same (λ m. same_name m (c ∷ cs)) (λ m. not (same_name m (d ∷ ds))) true other (different names) ∙ more later

@@ -1,27 +1,27 @@
 -- The symbols that are read of a canonical file are the object's.
-use Rattle.std.proofs.Common.{◌≡◌, ◌≢◌, ◌≤◌, ◌<◌, ℕ, zero, suc, ◌+◌, ◌-◌, ◌*◌, ◌/◌, ◌%◌, ◌^◌, Bool, true, false, cond, not, ◌&&◌, ◌||◌, List, [], ◌∷◌, ◌++◌, length, get_or, drop, replicate, Option, Some, None, refl, sym, ap, ◌∙◌, subst, inl, inr, arith, eqb, map, filter}
-use Rattle.std.specs.Prelude.{slice_get, All, ◌==◌, if◌then◌else◌, count_by, nat_lt, nat_le, codes, find}
+use Rattle.std.proofs.Common.{◌≡◌, ◌≢◌, ◌≤◌, ◌<◌, ℕ, zero, suc, ◌+◌, ◌-◌, ◌*◌, ◌/◌, ◌%◌, ◌^◌, Bool, true, false, ◌&&◌, ◌||◌, List, [], ◌∷◌, ◌++◌, length, get_or, drop, replicate, Option, Some, refl, sym, ap, ◌∙◌, subst, inl, inr, arith, map, filter}
+use Rattle.std.specs.Prelude.{slice_get, All, ◌==◌, if◌then◌else◌, nat_le, codes, find}
 use Rattle.std.specs.List.{list_any, flat_map}
 use Rattle.std.proofs.Math.Nat.{mod-eq_of_lt, mul-add-mod_self_right}
 use Rattle.std.proofs.lemmas.Nat.{div-mul-add}
-use Rattle.std.proofs.lemmas.List.{append_assoc, drop-drop, get_or-drop, length-append, length-map}
+use Rattle.std.proofs.lemmas.List.{drop-drop, get_or-drop, length-append, length-map}
 use Rattle.std.proofs.lemmas.List.Elements.{All-append, All-map}
 use Rattle.std.proofs.lemmas.Option.{none-some, same_Some, slice_get_past}
-use Rattle.std.proofs.lemmas.Bool.{and_parts, cases_eq, cases_lt, ne_eqb, eq-eqb, leb-true, false≢true, or_right}
+use Rattle.std.proofs.lemmas.Bool.{and_parts, cases_lt, ne_eqb, eq-eqb, leb-true, false≢true, or_right}
 use Rattle.elf_model.specs.declared.objects.Section.{Section}
 use Rattle.elf_model.specs.declared.objects.Symbol.{Symbol}
 use Rattle.elf_model.specs.declared.objects.Home.{Home}
 use Rattle.elf_model.specs.declared.objects.Home.TheVariants as home
-use Rattle.elf_model.specs.Constants.{symtab, strtab, rel, undefined_index, absolute_index}
+use Rattle.elf_model.specs.Constants.{symtab, undefined_index, absolute_index}
 use Rattle.elf_model.specs.Fields.{byte_at, half_at, word_at}
 use Rattle.elf_model.specs.Objects.{ObjectParts, is_symbol, is_name, has_home, is_at_home}
-use Rattle.elf_model.specs.Files.{header, header_count, headers, contents, text_at, from, symbol_table, symbol_places, kept_headers, is_kept_symbol, kept_symbols, home_of, section_number, symbol_name, symbol_of, EndsAt}
+use Rattle.elf_model.specs.Files.{header, header_count, contents, from, symbol_table, symbol_places, kept_headers, is_kept_symbol, kept_symbols, home_of, section_number, symbol_name, symbol_of, EndsAt}
 use Rattle.elf_model.specs.Canonical.{FileSection, file_sections, own_section, reloc_section, relocated, symtab_section, strings_section, symbol_names, section_names, symbol_row, home_index, symtab_header, strtab_header, string_table, name_offset}
 use Rattle.elf_model.specs.Fits.{SymbolFits}
 use Rattle.elf_model.proofs.Laid.{place_of}
 use Rattle.elf_model.proofs.FieldsRead.{IsHeader, word_read, half_read, drop_further}
-use Rattle.elf_model.proofs.Lists.{All_at, there, get_left, get_right, get_map, find_from, filter_made, any_from, map_from, map-map}
-use Rattle.elf_model.proofs.Sections.{SectionFacts, NameFacts, name_facts, not_symtab}
+use Rattle.elf_model.proofs.Lists.{All_at, there, get_left, get_map, find_from, filter_made, any_from, map_from, map-map}
+use Rattle.elf_model.proofs.Sections.{NameFacts, name_facts, not_symtab}
 use Rattle.elf_model.proofs.Strings.{StandsAt, name_at, name_inside}
 use Rattle.elf_model.proofs.Written.{ObjectFacts, tables_of, table_at, table_short, count_sections}
 use Rattle.elf_model.proofs.Headers.{Reading, head, bytes_of, drop_there, header_total, text_found, text_ends}
@@ -55,12 +55,12 @@ symtab_only o f i s e k =
     let many : length (own ++ rels) ≡ n = omega (arith, length-append own rels, length-map o.sections own_section, length-map (relocated o 0 o.sections) (reloc_section o)) in
     let P : FileSection → Type 0 = λ (t : FileSection). t.kind ≢ symtab in
     let front : All P (own ++ rels) = All-append P own rels (All-map P own_section o.sections (λ j d m. not_symtab (get_or o.sections j d).kind (get_or o.sections j d).flags (f.sections j d m).kept))
-        (All-map P (reloc_section o) (relocated o 0 o.sections) (λ j d m z. absurd (omega arith))) in
+    (All-map P (reloc_section o) (relocated o 0 o.sections) (λ j d m z. absurd (omega arith))) in
     elim (cases_lt i n) [
-      inl l ↦
-        let at = there (own ++ rels) i (omega (arith, many)) in
-        let same = same_Some at.0 s (sym (get_left (own ++ rels) (tables_of o) i at.0 at.1) ∙ e) in
-        absurd (All_at P (own ++ rels) i at.0 front at.1 (ap (λ (t : FileSection). t.kind) same ∙ k))
+      | inl l ↦
+          let at = there (own ++ rels) i (omega (arith, many)) in
+          let same = same_Some at.0 s (sym (get_left (own ++ rels) (tables_of o) i at.0 at.1) ∙ e) in
+          absurd (All_at P (own ++ rels) i at.0 front at.1 (ap (λ (t : FileSection). t.kind) same ∙ k))
       | inr l ↦ let first = last_tables o (i - n) s (sym (table_at o (i - n) i (omega arith)) ∙ e) k in omega (arith, first)
     ]
 
@@ -96,7 +96,7 @@ row_read b e names s rest at n f h =
 
 at_home_below : (sections : List Section) (s : Symbol) (i : ℕ) → is_at_home sections s (slice_get sections i) ≡ true → i < length sections
 at_home_below sections s i h = elim (cases_lt i (length sections)) [
-  inl l ↦ l
+  | inl l ↦ l
   | inr l ↦ absurd (false≢true (subst (λ (x : Option Section). is_at_home sections s x ≡ true) (slice_get_past sections i l) h))
 ]
 
@@ -111,7 +111,7 @@ home_kept sections s home.Absolute e = refl
 home_kept sections s (home.Section i) e =
     let l = at_home_below sections s i e in
     or_right (i + 1 == 0) ((i + 1 == 0xFFF1) || list_any (λ k. i + 1 == k) (from 1 (length sections)))
-        (or_right (i + 1 == 0xFFF1) (list_any (λ k. i + 1 == k) (from 1 (length sections))) (any_from 1 (length sections) (i + 1) (omega arith) (omega (arith, l))))
+    (or_right (i + 1 == 0xFFF1) (list_any (λ k. i + 1 == k) (from 1 (length sections))) (any_from 1 (length sections) (i + 1) (omega arith) (omega (arith, l))))
 
 module _ (o : ObjectParts) (b : List ℕ) (r : Reading o b) where
   few : length o.sections + 1 < 0xFF00
@@ -191,7 +191,7 @@ module _ (o : ObjectParts) (b : List ℕ) (r : Reading o b) where
       let inside = name_inside (string_table (symbol_names o)) (name_offset (symbol_names o) s.name) s.name (name_held i s e) in
       let short = table_short o r.facts r.fits 1 (strings_section (codes ".strtab") (symbol_names o)) refl (λ z. absurd (omega arith)) in
       row_read b (offset + 16 * k) (symbol_names o) s (flat_map (symbol_row (symbol_names o)) (drop (suc i) o.symbols) ++ at.0) there_row
-          (omega (arith, inside, short)) (All_at SymbolFits o.symbols i s r.fits.symbols e) (home_fits o.sections s s.home few facts.home)
+      (omega (arith, inside, short)) (All_at SymbolFits o.symbols i s r.fits.symbols e) (home_fits o.sections s s.home few facts.home)
 
   symbol_kept : (i k : ℕ) (s : Symbol) → k ≡ i + 1 → slice_get o.symbols i ≡ Some s → is_kept_symbol b ((header b (symtab_header o)).offset + 16 * k) ≡ true
   symbol_kept i k s n e =
@@ -204,8 +204,8 @@ module _ (o : ObjectParts) (b : List ℕ) (r : Reading o b) where
   pub kept_symbols_are : kept_symbols b ≡ map (λ k. (header b (symtab_header o)).offset + 16 * k) (from 1 (length o.symbols))
   kept_symbols_are =
       ap (filter (is_kept_symbol b)) symbol_places_are ∙ filter_made (is_kept_symbol b) (λ k. (header b (symtab_header o)).offset + 16 * k) 1 (length o.symbols) (λ k l u.
-        let at = there o.symbols (k - 1) (omega arith) in
-        symbol_kept (k - 1) k at.0 (omega arith) at.1)
+      let at = there o.symbols (k - 1) (omega arith) in
+      symbol_kept (k - 1) k at.0 (omega arith) at.1)
 
   symbol_read : (i k : ℕ) (s : Symbol) → k ≡ i + 1 → slice_get o.symbols i ≡ Some s → symbol_of b ((header b (symtab_header o)).offset + 16 * k) ≡ s
   symbol_read i k s n e =

@@ -1,12 +1,12 @@
 -- A canonical file has the format's header, and its tables lead to one another.
-use Rattle.std.proofs.Common.{◌≡◌, ◌≢◌, ◌≤◌, ◌<◌, ℕ, zero, suc, ◌+◌, ◌-◌, ◌*◌, ◌/◌, ◌%◌, ◌^◌, List, [], ◌∷◌, length, get_or, take, drop, Some, refl, sym, ap, ◌∙◌, subst, arith}
+use Rattle.std.proofs.Common.{◌≡◌, ◌≢◌, ◌≤◌, ◌<◌, ℕ, ◌+◌, ◌-◌, ◌*◌, ◌/◌, ◌%◌, ◌^◌, List, length, get_or, take, drop, Some, refl, sym, ap, ◌∙◌, subst, arith}
 use Rattle.std.specs.Prelude.{slice_get, All, codes}
 use Rattle.std.proofs.lemmas.Bool.{eqb-true}
-use Rattle.elf_model.specs.Constants.{nobits, symtab, strtab, rel}
-use Rattle.elf_model.specs.Fields.{byte_at, half_at, word_at}
+use Rattle.elf_model.specs.Constants.{symtab, strtab, rel}
+use Rattle.elf_model.specs.Fields.{word_at}
 use Rattle.elf_model.specs.Objects.{ObjectParts}
 use Rattle.elf_model.specs.Files.{header, header_count, IsArmObject, IsKind, EndsAt, HasTables}
-use Rattle.elf_model.specs.Canonical.{FileSection, file_sections, section_names, own_section, reloc_section, relocated, symtab_section, symtab_header, strtab_header, shstrtab_header, strings_section, symbol_names, table_place}
+use Rattle.elf_model.specs.Canonical.{FileSection, file_sections, section_names, relocated, symtab_section, symtab_header, strtab_header, shstrtab_header, strings_section, symbol_names, table_place}
 use Rattle.elf_model.proofs.FieldsRead.{IsHeader, half_read}
 use Rattle.elf_model.proofs.FileRead.{file_of, long, table_read, flags_read, row_size_read, inside_read}
 use Rattle.elf_model.proofs.Laid.{place_of, end_above}
@@ -23,7 +23,7 @@ HasEntries o s = s.kind ≡ rel → (s.entry ≡ 8) × (s.size % 8 ≡ 0) × (s.
 entries_fit : (o : ObjectParts) → ObjectFacts o → All (HasEntries o) (file_sections o)
 entries_fit o f =
     each_named (HasEntries o) o (λ k d l e. absurd (not_rel (get_or o.sections k d).kind (get_or o.sections k d).flags (f.sections k d l).kept e))
-        (λ k d l e. (refl, omega arith, refl)) (λ e. absurd (omega arith)) (λ e. absurd (omega arith)) (λ e. absurd (omega arith))
+    (λ k d l e. (refl, omega arith, refl)) (λ e. absurd (omega arith)) (λ e. absurd (omega arith)) (λ e. absurd (omega arith))
 
 abbrev pub HasShortName : FileSection → Type 0
 HasShortName s = s.kind ≢ rel → length s.name ≤ 4095
@@ -90,29 +90,29 @@ module _ (o : ObjectParts) (b : List ℕ) (r : Reading o b) where
         header_size = λ l. row_size_read b (section_names o) (file_sections o) (table_place o) (shstrtab_header o) o.flags r.file;
         section_names = λ l. subst (λ (h : ℕ). IsKind b h strtab) (sym (names_table o b r)) names_kind;
         inside = λ h l u k.
-        let at = section_at h l u in
-        let fields = fields_at h at.0 l at.1 in
-        inside_read b (section_names o) (file_sections o) (table_place o) (shstrtab_header o) o.flags r.file (h - 1) h at.0 (omega arith) at.1 (λ z. k (fields.kind ∙ z));
+            let at = section_at h l u in
+            let fields = fields_at h at.0 l at.1 in
+            inside_read b (section_names o) (file_sections o) (table_place o) (shstrtab_header o) o.flags r.file (h - 1) h at.0 (omega arith) at.1 (λ z. k (fields.kind ∙ z));
         one_symbol_table = λ h k a c. symtab_is h a ∙ sym (symtab_is k c);
         symbol_entries = λ h k.
-        let fields = symtab_fields o b r in
-        let size = fields.size in
-        subst (λ (t : ℕ). ((header b t).entry ≡ 16) × ((header b t).size % 16 ≡ 0) × IsKind b (header b t).link strtab) (sym (symtab_is h k))
+            let fields = symtab_fields o b r in
+            let size = fields.size in
+            subst (λ (t : ℕ). ((header b t).entry ≡ 16) × ((header b t).size % 16 ≡ 0) × IsKind b (header b t).link strtab) (sym (symtab_is h k))
             (fields.entry, omega (arith, size), subst (λ (t : ℕ). IsKind b t strtab) (sym fields.link) strings_kind);
         reloc_entries = λ h k.
-        let at = section_at h k.0 k.1 in
-        let fields = fields_at h at.0 k.0 at.1 in
-        let entries = All_at (HasEntries o) (file_sections o) (h - 1) at.0 (entries_fit o r.facts) at.1 (sym fields.kind ∙ k.2) in
-        (fields.entry ∙ entries.0, ap (λ (n : ℕ). n % 8) fields.size ∙ entries.1, subst (λ (t : ℕ). IsKind b t symtab) (sym (fields.link ∙ entries.2)) symtab_kind);
+            let at = section_at h k.0 k.1 in
+            let fields = fields_at h at.0 k.0 at.1 in
+            let entries = All_at (HasEntries o) (file_sections o) (h - 1) at.0 (entries_fit o r.facts) at.1 (sym fields.kind ∙ k.2) in
+            (fields.entry ∙ entries.0, ap (λ (n : ℕ). n % 8) fields.size ∙ entries.1, subst (λ (t : ℕ). IsKind b t symtab) (sym (fields.link ∙ entries.2)) symtab_kind);
         names_end = λ h l u k.
-        let at = section_at h l u in
-        let fields = fields_at h at.0 l at.1 in
-        name_ends o b r (h - 1) h at.0 (omega arith) at.1 (All_at HasShortName (file_sections o) (h - 1) at.0 (names_short o r.facts) at.1 (λ z. k (fields.kind ∙ z)));
+            let at = section_at h l u in
+            let fields = fields_at h at.0 l at.1 in
+            name_ends o b r (h - 1) h at.0 (omega arith) at.1 (All_at HasShortName (file_sections o) (h - 1) at.0 (names_short o r.facts) at.1 (λ z. k (fields.kind ∙ z)));
         symbol_names_end = λ t k a l u.
-        let fields = symtab_fields o b r in
-        let size = fields.size in
-        let same = symtab_is t a in
-        let below : k < (header b (symtab_header o)).size / 16 = subst (λ (h : ℕ). k < (header b h).size / 16) same u in
-        let at = there o.symbols (k - 1) (omega (arith, size, below)) in
-        subst (λ (h : ℕ). EndsAt b (header b h).link (word_at b ((header b h).offset + 16 * k))) (sym same) (symbol_name_ends o b r (k - 1) k at.0 (omega arith) at.1);
+            let fields = symtab_fields o b r in
+            let size = fields.size in
+            let same = symtab_is t a in
+            let below : k < (header b (symtab_header o)).size / 16 = subst (λ (h : ℕ). k < (header b h).size / 16) same u in
+            let at = there o.symbols (k - 1) (omega (arith, size, below)) in
+            subst (λ (h : ℕ). EndsAt b (header b h).link (word_at b ((header b h).offset + 16 * k))) (sym same) (symbol_name_ends o b r (k - 1) k at.0 (omega arith) at.1);
       }

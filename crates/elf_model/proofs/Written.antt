@@ -1,22 +1,22 @@
 -- The canonical file of an object is a file that was laid out from a list of sections.
-use Rattle.std.proofs.Common.{◌≡◌, ◌≢◌, ◌≤◌, ◌<◌, ℕ, zero, suc, ◌+◌, ◌-◌, ◌*◌, ◌/◌, ◌^◌, Bool, true, false, cond, not, ◌&&◌, List, [], ◌∷◌, ◌++◌, length, get_or, replicate, Some, None, refl, sym, ap, ◌∙◌, subst, inl, inr, arith, eqb, map}
-use Rattle.std.specs.Prelude.{slice_get, All, IsTrue, ◌==◌, if◌then◌else◌, count_by, codes}
+use Rattle.std.proofs.Common.{◌≡◌, ◌≢◌, ◌≤◌, ◌<◌, ℕ, ◌+◌, ◌-◌, ◌*◌, ◌^◌, Bool, true, false, ◌&&◌, List, [], ◌∷◌, ◌++◌, length, get_or, replicate, Some, refl, sym, ap, ◌∙◌, arith, map}
+use Rattle.std.specs.Prelude.{slice_get, All, IsTrue, ◌==◌, if◌then◌else◌, codes}
 use Rattle.std.specs.List.{list_all, flat_map}
-use Rattle.std.proofs.lemmas.List.{append_assoc, length-append, length-map, length-replicate, map-append}
+use Rattle.std.proofs.lemmas.List.{append_assoc, length-append, length-map, map-append}
 use Rattle.std.proofs.lemmas.List.Elements.{All-nil, All-cons, All-append, All-map, All-weaker}
 use Rattle.std.proofs.lemmas.List.Sums.{count_by-le-length}
 use Rattle.std.proofs.lemmas.Option.{slice_get-get_or}
-use Rattle.std.proofs.lemmas.Bool.{and_parts, cases_Bool}
+use Rattle.std.proofs.lemmas.Bool.{and_parts}
 use Rattle.elf_model.specs.declared.objects.Section.{Section}
 use Rattle.elf_model.specs.declared.objects.Symbol.{Symbol}
 use Rattle.elf_model.specs.declared.objects.Reloc.{Reloc}
-use Rattle.elf_model.specs.Constants.{nobits, symtab, strtab, rel, local}
+use Rattle.elf_model.specs.Constants.{nobits, local}
 use Rattle.elf_model.specs.Objects.{ObjectParts, is_object, is_section, is_symbol, is_reloc, locals_first, rise, is_version_5}
-use Rattle.elf_model.specs.Canonical.{FileSection, canonical, file_sections, section_names, own_section, reloc_section, symtab_section, strings_section, relocated, relocs_in, reloc_row, reloc_name, symbol_row, symbol_names, section_header, symtab_header, strtab_header, shstrtab_header, table_place, file_header, laid, laid_end, header_rows, string_table, name_offset}
+use Rattle.elf_model.specs.Canonical.{FileSection, canonical, file_sections, section_names, own_section, reloc_section, symtab_section, strings_section, relocated, relocs_in, reloc_row, symbol_row, symbol_names, shstrtab_header, table_place, file_header, laid, laid_end, header_rows, string_table, name_offset}
 use Rattle.elf_model.specs.Fits.{Fits, SectionFits}
 use Rattle.elf_model.proofs.Laid.{IsAligned, round_up_above}
 use Rattle.elf_model.proofs.FileRead.{IsFile, FitsMost, IsSized, NameFits, file_of, contents_short}
-use Rattle.elf_model.proofs.Lists.{All_at, All_from_test, get_left, get_right, get_map, map-map}
+use Rattle.elf_model.proofs.Lists.{All_from_test, get_left, get_right, get_map, map-map}
 use Rattle.elf_model.proofs.Sections.{SectionFacts, section_facts, full_size}
 use Rattle.elf_model.proofs.Strings.{name_at, name_inside}
 
@@ -61,10 +61,10 @@ tables_of o = symtab_section o ∷ strings_section (codes ".strtab") (symbol_nam
 pub each_named : (P : FileSection → Type 0) (o : ObjectParts) → All (λ s. P (own_section s)) o.sections → All (λ p. P (reloc_section o p)) (relocated o 0 o.sections) → P (symtab_section o) → P (strings_section (codes ".strtab") (symbol_names o)) → P (strings_section (codes ".shstrtab") (section_names o)) → All P (file_sections o)
 each_named P o a b c d e =
     All-append P (map own_section o.sections ++ map (reloc_section o) (relocated o 0 o.sections)) (tables_of o)
-        (All-append P (map own_section o.sections) (map (reloc_section o) (relocated o 0 o.sections)) (All-map P own_section o.sections a) (All-map P (reloc_section o) (relocated o 0 o.sections) b))
-        (All-cons P (symtab_section o) (strings_section (codes ".strtab") (symbol_names o) ∷ strings_section (codes ".shstrtab") (section_names o) ∷ []) c
-            (All-cons P (strings_section (codes ".strtab") (symbol_names o)) (strings_section (codes ".shstrtab") (section_names o) ∷ []) d
-                (All-cons P (strings_section (codes ".shstrtab") (section_names o)) [] e (All-nil P))))
+    (All-append P (map own_section o.sections) (map (reloc_section o) (relocated o 0 o.sections)) (All-map P own_section o.sections a) (All-map P (reloc_section o) (relocated o 0 o.sections) b))
+    (All-cons P (symtab_section o) (strings_section (codes ".strtab") (symbol_names o) ∷ strings_section (codes ".shstrtab") (section_names o) ∷ []) c
+    (All-cons P (strings_section (codes ".strtab") (symbol_names o)) (strings_section (codes ".shstrtab") (section_names o) ∷ []) d
+    (All-cons P (strings_section (codes ".shstrtab") (section_names o)) [] e (All-nil P))))
 
 -- the same where it holds of every table of strings
 pub each_section : (P : FileSection → Type 0) (o : ObjectParts) → All (λ s. P (own_section s)) o.sections → All (λ p. P (reloc_section o p)) (relocated o 0 o.sections) → P (symtab_section o) → ((name : List ℕ) (names : List (List ℕ)) → P (strings_section name names)) → All P (file_sections o)
@@ -73,7 +73,7 @@ each_section P o a b c d = each_named P o a b c (d (codes ".strtab") (symbol_nam
 pub all_aligned : (o : ObjectParts) → ObjectFacts o → All IsAligned (file_sections o)
 all_aligned o f =
     each_section IsAligned o (All-weaker SectionFacts (λ s. IsAligned (own_section s)) (λ s g. g.aligned) o.sections f.sections)
-        (λ k d l. omega arith) (omega arith) (λ name names. omega arith)
+    (λ k d l. omega arith) (omega arith) (λ name names. omega arith)
 
 pub length-reloc_rows : (rs : List Reloc) → length (flat_map reloc_row rs) ≡ 8 * length rs
 length-reloc_rows [] = refl
@@ -87,7 +87,7 @@ pub all_sized : (o : ObjectParts) → ObjectFacts o → All IsSized (file_sectio
 all_sized o f =
     let symbols = length-symbol_rows (symbol_names o) o.symbols in
     each_section IsSized o (All-weaker SectionFacts (λ s. IsSized (own_section s)) (λ s g. full_size s g) o.sections f.sections)
-        (λ k d l n. sym (length-reloc_rows (relocs_in o (get_or (relocated o 0 o.sections) k d).0))) (λ n. omega (arith, symbols)) (λ name names n. refl)
+    (λ k d l n. sym (length-reloc_rows (relocs_in o (get_or (relocated o 0 o.sections) k d).0))) (λ n. omega (arith, symbols)) (λ name names n. refl)
 
 pub is_written : (o : ObjectParts) → canonical o ≡ file_of (section_names o) (file_sections o) (table_place o) (shstrtab_header o) o.flags
 is_written o =
@@ -96,7 +96,7 @@ is_written o =
     let nulls : List ℕ = replicate 40 0 in
     let rows : List ℕ = header_rows (section_names o) 52 ss in
     ap (λ (r : List ℕ). file_header (table_place o) (1 + length ss) (shstrtab_header o) o.flags ++ r)
-        (append_assoc (laid 52 ss ++ pad) nulls rows ∙ append_assoc (laid 52 ss) pad (nulls ++ rows))
+    (append_assoc (laid 52 ss ++ pad) nulls rows ∙ append_assoc (laid 52 ss) pad (nulls ++ rows))
 
 pub count_sections : (o : ObjectParts) → length (file_sections o) ≡ length o.sections + length (relocated o 0 o.sections) + 3
 count_sections o =
@@ -108,28 +108,28 @@ count_sections o =
 pub own_at : (o : ObjectParts) (i : ℕ) (s : Section) → slice_get o.sections i ≡ Some s → slice_get (file_sections o) i ≡ Some (own_section s)
 own_at o i s e =
     get_left (map own_section o.sections ++ map (reloc_section o) (relocated o 0 o.sections)) (tables_of o) i (own_section s)
-        (get_left (map own_section o.sections) (map (reloc_section o) (relocated o 0 o.sections)) i (own_section s) (get_map own_section o.sections i s e))
+    (get_left (map own_section o.sections) (map (reloc_section o) (relocated o 0 o.sections)) i (own_section s) (get_map own_section o.sections i s e))
 
 pub reloc_section_at : (o : ObjectParts) (j : ℕ) (p : ℕ × Section) → slice_get (relocated o 0 o.sections) j ≡ Some p → slice_get (file_sections o) (length o.sections + j) ≡ Some (reloc_section o p)
 reloc_section_at o j p e =
     let own = length-map o.sections own_section in
     get_left (map own_section o.sections ++ map (reloc_section o) (relocated o 0 o.sections)) (tables_of o) (length o.sections + j) (reloc_section o p)
-        (get_right (map own_section o.sections) (map (reloc_section o) (relocated o 0 o.sections)) j (length o.sections + j) (omega (arith, own)) ∙ get_map (reloc_section o) (relocated o 0 o.sections) j p e)
+    (get_right (map own_section o.sections) (map (reloc_section o) (relocated o 0 o.sections)) j (length o.sections + j) (omega (arith, own)) ∙ get_map (reloc_section o) (relocated o 0 o.sections) j p e)
 
 pub table_at : (o : ObjectParts) (j k : ℕ) → k ≡ length o.sections + length (relocated o 0 o.sections) + j → slice_get (file_sections o) k ≡ slice_get (tables_of o) j
 table_at o j k e =
     let own = length-map o.sections own_section in
     let rels = length-map (relocated o 0 o.sections) (reloc_section o) in
     get_right (map own_section o.sections ++ map (reloc_section o) (relocated o 0 o.sections)) (tables_of o) j k
-        (omega (arith, length-append (map own_section o.sections) (map (reloc_section o) (relocated o 0 o.sections)), own, rels, e))
+    (omega (arith, length-append (map own_section o.sections) (map (reloc_section o) (relocated o 0 o.sections)), own, rels, e))
 
 -- the names that the last table holds are those of the file's sections
 pub names_of : (o : ObjectParts) → section_names o ≡ map (λ (s : FileSection). s.name) (file_sections o)
 names_of o = sym (map-append (λ (s : FileSection). s.name) (map own_section o.sections ++ map (reloc_section o) (relocated o 0 o.sections)) (tables_of o)
     ∙ ap (λ (l : List (List ℕ)). l ++ map (λ (s : FileSection). s.name) (tables_of o))
-        (map-append (λ (s : FileSection). s.name) (map own_section o.sections) (map (reloc_section o) (relocated o 0 o.sections))
-        ∙ ap (λ (l : List (List ℕ)). l ++ map (λ (s : FileSection). s.name) (map (reloc_section o) (relocated o 0 o.sections))) (map-map (λ (s : FileSection). s.name) own_section o.sections)
-        ∙ ap (λ (l : List (List ℕ)). map (λ (s : Section). s.name) o.sections ++ l) (map-map (λ (s : FileSection). s.name) (reloc_section o) (relocated o 0 o.sections))))
+    (map-append (λ (s : FileSection). s.name) (map own_section o.sections) (map (reloc_section o) (relocated o 0 o.sections))
+    ∙ ap (λ (l : List (List ℕ)). l ++ map (λ (s : FileSection). s.name) (map (reloc_section o) (relocated o 0 o.sections))) (map-map (λ (s : FileSection). s.name) own_section o.sections)
+    ∙ ap (λ (l : List (List ℕ)). map (λ (s : Section). s.name) o.sections ++ l) (map-map (λ (s : FileSection). s.name) (reloc_section o) (relocated o 0 o.sections))))
 
 pub name_number : (o : ObjectParts) (i : ℕ) (s : FileSection) → slice_get (file_sections o) i ≡ Some s → slice_get (section_names o) i ≡ Some s.name
 name_number o i s e = ap (λ (l : List (List ℕ)). slice_get l i) (names_of o) ∙ get_map (λ (s : FileSection). s.name) (file_sections o) i s e
