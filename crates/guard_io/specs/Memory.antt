@@ -1,6 +1,6 @@
 -- A shelf and a sink that lie in memory, with the numbers of the calls that are made to fail.
-use Rattle.std.specs.Prelude.{ℕ, ◌+◌, ◌-◌, ◌^◌, ◌==◌, ◌&&◌, min, nat_lt, not, Bool, true, false, List, [], ◌∷◌, ◌++◌, Option, Some, None, if◌then◌else◌}
-use Rattle.std.specs.List.{list_all, list_any}
+use Rattle.std.specs.Prelude.{ℕ, ◌+◌, ◌-◌, ◌^◌, ◌==◌, ◌&&◌, ◌≡◌, ◌⊎◌, IsTrue, min, nat_lt, not, Bool, true, false, List, [], ◌∷◌, ◌++◌, Option, Some, None, if◌then◌else◌}
+use Rattle.std.specs.List.{list_all, list_any, position}
 use Rattle.std.specs.Str.{bytes_eq}
 use Rattle.guard_io.specs.declared.mem_shelf.NamedFile.{NamedFile}
 
@@ -28,10 +28,18 @@ written (f ∷ files) name bytes =
     if bytes_eq f.name name then record { name = name; bytes = bytes } ∷ files
     else f ∷ written files name bytes
 
+-- the first place of a name
+abbrev pub place : List NamedFile → List ℕ → Option ℕ
+place files name = position (λ (f : NamedFile). bytes_eq f.name name) files
+
+-- whether a file has this name
+abbrev pub is_named : List NamedFile → List ℕ → Bool
+is_named files name = list_any (λ (f : NamedFile). bytes_eq f.name name) files
+
 -- whether no two files have one name
 abbrev pub names_differ : List NamedFile → Bool
 names_differ [] = true
-names_differ (f ∷ files) = not (list_any (λ (g : NamedFile). bytes_eq g.name f.name) files) && names_differ files
+names_differ (f ∷ files) = not (is_named files f.name) && names_differ files
 
 pub record MemoryShelf : Type 0 where
   pub files : List NamedFile
@@ -39,6 +47,22 @@ pub record MemoryShelf : Type 0 where
   pub calls : ℕ
   pub load_faults : ℕ
   pub save_faults : ℕ
+
+-- what the file of a name holds, in a shelf
+abbrev pub content_of : MemoryShelf → List ℕ → Option (List ℕ)
+content_of s name = content s.files name
+
+-- whether no call is made to fail any more
+abbrev pub is_steady_shelf : MemoryShelf → Bool
+is_steady_shelf s = are_past s.fail s.calls
+
+-- A load fails where its call is listed, and where the name isn't there.
+abbrev pub FailsToLoad : MemoryShelf → List ℕ → Type 0
+FailsToLoad s name = IsTrue (is_listed s.fail s.calls) ⊎ (content s.files name ≡ None)
+
+-- a shelf before its first call
+abbrev pub new_shelf : List NamedFile → List ℕ → MemoryShelf
+new_shelf files fail = record { files = files; fail = fail; calls = 0; load_faults = 0; save_faults = 0 }
 
 -- a shelf after a call that changed no file and was no fault
 abbrev pub with_call : MemoryShelf → MemoryShelf
