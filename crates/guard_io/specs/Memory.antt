@@ -86,6 +86,14 @@ pub record MemorySink : Type 0 where
   pub calls : ℕ
   pub faults : ℕ
 
+-- a sink before its first call
+abbrev pub new_sink : List ℕ → MemorySink
+new_sink fail = record { bytes = []; fail = fail; calls = 0; faults = 0 }
+
+-- whether no call is made to fail any more
+abbrev pub is_steady_sink : MemorySink → Bool
+is_steady_sink s = are_past s.fail s.calls
+
 -- a sink after a put that was no fault and appended these bytes
 abbrev pub with_bytes : MemorySink → List ℕ → MemorySink
 with_bytes s bytes = record s { bytes = s.bytes ++ bytes; calls = raised s.calls }

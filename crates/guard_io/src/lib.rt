@@ -4,10 +4,12 @@
 mod counts;
 mod errors;
 mod mem_shelf;
+mod mem_sink;
 mod shelf;
 mod sink;
 
 pub use errors::{LoadErr, PutErr, SaveErr};
-pub use mem_shelf::NamedFile;
+pub use mem_shelf::{MemShelf, NamedFile, have_different_names};
+pub use mem_sink::MemSink;
 pub use shelf::Shelf;
 pub use sink::Sink;
