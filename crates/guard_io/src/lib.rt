@@ -3,11 +3,13 @@
 
 mod counts;
 mod errors;
+mod host;
 mod mem_shelf;
 mod mem_sink;
 mod shelf;
 mod sink;
 
+pub use host::{HostShelf, HostSink};
 pub use errors::{LoadErr, PutErr, SaveErr};
 pub use mem_shelf::{MemShelf, NamedFile, have_different_names};
 pub use mem_sink::MemSink;
