@@ -4,6 +4,7 @@ ghost use Rattle.std.specs.Prelude.{◌≡◌, ◌≢◌, ◌≤◌, ℕ, false,
 ghost use Rattle.std.specs.Io.KnownBytes.{Appends};
 ghost use Rattle.guard_io.specs.Host.{with_failed_load, with_failed_save, AreFirstLeft, AppendsPart};
 ghost use Rattle.guard_io.specs.Memory.{raised};
+ghost use Rattle.guard_io.specs.Outside.{Rose};
 
 use std::alloc::Global;
 use std::io::{self, Print, Read, Write};
@@ -119,7 +120,18 @@ impl<R: Files> Shelf for HostShelf<R> {
 
     ghost save_faults = { λ s. s.saves };
 
-    fn load(&mut self, alloc: Global, name: &str, most: usize) -> Result<Vec<u8>, LoadErr> {
+    fn load(&mut self, alloc: Global, name: &str, most: usize) -> Result<Vec<u8>, LoadErr>
+        ensures most { IfOk result (λ bytes. vec_len bytes ≤ most) }
+        ensures count { self.old.loads ≤ self.new.loads }
+        ensures saves { self.new.saves ≡ self.old.saves }
+        ensures failed { result ≡ Err LoadErr.Failed → Rose self.old.loads self.new.loads }
+        ensures memory { result ≡ Err LoadErr.Memory → self.new.loads ≡ self.old.loads }
+
+        // No count rises but for a call that fails.
+        ensures after { OnOk result (self.new ≡ self.old) }
+        ensures after_fault { result ≡ Err LoadErr.Failed → self.new ≡ with_failed_load self.old }
+        ensures after_want { result ≡ Err LoadErr.Memory → self.new ≡ self.old }
+    {
         match read_file(&self.rt, alloc, name, most) {
             Ok(bytes) => Ok(bytes),
             Err(LoadErr::Memory) => Err(LoadErr::Memory),
@@ -130,7 +142,16 @@ impl<R: Files> Shelf for HostShelf<R> {
         }
     }
 
-    fn save(&mut self, name: &str, bytes: &[u8]) -> Result<(), SaveErr> {
+    fn save(&mut self, name: &str, bytes: &[u8]) -> Result<(), SaveErr>
+        ensures count { self.old.saves ≤ self.new.saves }
+        ensures loads { self.new.loads ≡ self.old.loads }
+        ensures failed { result ≡ Err SaveErr.Failed → Rose self.old.saves self.new.saves }
+        ensures never_memory { result ≢ Err SaveErr.Memory }
+
+        // No count rises but for a call that fails.
+        ensures after { OnOk result (self.new ≡ self.old) }
+        ensures after_fault { result ≡ Err SaveErr.Failed → self.new ≡ with_failed_save self.old }
+    {
         match write_file(&self.rt, name, bytes) {
             Ok(()) => Ok(()),
             Err(Fault) => {
@@ -176,7 +197,15 @@ impl<R: Print> Sink for HostSink<R> {
 
     ghost faults = { λ s. s };
 
-    fn put(&mut self, bytes: &[u8]) -> Result<(), PutErr> {
+    fn put(&mut self, bytes: &[u8]) -> Result<(), PutErr>
+        ensures count { self.old ≤ self.new }
+        ensures failed { result ≡ Err PutErr.Failed → Rose self.old self.new }
+        ensures never_memory { result ≢ Err PutErr.Memory }
+
+        // The count does not rise but for a call that fails.
+        ensures after { OnOk result (self.new ≡ self.old) }
+        ensures after_fault { result ≡ Err PutErr.Failed → self.new ≡ raised self.old }
+    {
         let mut out = io::writer(&self.rt);
         match write_whole(&mut out, bytes) {
             Ok(()) => Ok(()),
