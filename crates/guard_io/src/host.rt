@@ -17,10 +17,10 @@ use crate::{LoadErr, PutErr, SaveErr, Shelf, Sink};
 
 /// An error outside the program.
 #[derive(Drop)]
-struct Fault;
+pub(crate) struct Fault;
 
 /// Reads the first bytes, at most so many, in as many pieces as it takes.
-fn read_front<S: Read>(source: &mut S, alloc: Global, most: usize) -> Result<Vec<u8>, LoadErr>
+pub(crate) fn read_front<S: Read>(source: &mut S, alloc: Global, most: usize) -> Result<Vec<u8>, LoadErr>
     ensures most { IfOk result (λ bytes. vec_len bytes ≤ most) }
     ensures bytes { IfOk result (λ bytes. AreFirstLeft (S.remaining source.old) most bytes.items) }
 {
@@ -42,7 +42,7 @@ fn read_front<S: Read>(source: &mut S, alloc: Global, most: usize) -> Result<Vec
 }
 
 /// Writes all the bytes, in as many pieces as it takes.
-fn write_whole<W: Write>(out: &mut W, bytes: &[u8]) -> Result<(), Fault>
+pub(crate) fn write_whole<W: Write>(out: &mut W, bytes: &[u8]) -> Result<(), Fault>
     ensures ok { OnOk result (Appends (W.contents out.old) (W.contents out.new) bytes.now) }
     ensures err { OnErr result (AppendsPart (W.contents out.old) (W.contents out.new) bytes.now) }
 {

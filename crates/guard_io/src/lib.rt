@@ -8,6 +8,8 @@ mod mem_shelf;
 mod mem_sink;
 mod shelf;
 mod sink;
+#[cfg(test)]
+mod tests;
 
 pub use host::{HostShelf, HostSink};
 pub use errors::{LoadErr, PutErr, SaveErr};
