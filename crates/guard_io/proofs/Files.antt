@@ -32,15 +32,16 @@ content_after : (files : List NamedFile) (name : List ℕ) (i : ℕ) → positio
 content_after [] name i none = refl
 content_after (f ∷ files) name i none =
     elim (has_name name f) as (λ b. cond b (Some i) (position_from (has_name name) (i + 1) files) ≡ None → cond b (Some f.bytes) (content files name) ≡ None) [
-        true ↦ (λ e. absurd (cc e)) | false ↦ content_after files name (i + 1)
+      | true ↦ (λ e. absurd (cc e))
+      | false ↦ content_after files name (i + 1)
     ] none
 
 written_after : (files : List NamedFile) (name bytes : List ℕ) (i : ℕ) → position_from (has_name name) i files ≡ None → written files name bytes ≡ files ++ named_file name bytes ∷ []
 written_after [] name bytes i none = refl
 written_after (f ∷ files) name bytes i none =
     elim (has_name name f) as (λ b. cond b (Some i) (position_from (has_name name) (i + 1) files) ≡ None → cond b (named_file name bytes ∷ files) (f ∷ written files name bytes) ≡ f ∷ (files ++ named_file name bytes ∷ [])) [
-        true ↦ (λ e. absurd (cc e))
-        | false ↦ (λ e. ap (λ rest. f ∷ rest) (written_after files name bytes (i + 1) e))
+      | true ↦ (λ e. absurd (cc e))
+      | false ↦ (λ e. ap (λ rest. f ∷ rest) (written_after files name bytes (i + 1) e))
     ] none
 
 -- the file at the first place of a name is what the name stands for, and what a write replaces
@@ -65,7 +66,8 @@ written-no_place files name bytes none = written_after files name bytes 0 (sym (
 different_name : (a b : List ℕ) → a ≢ b → bytes_eq a b ≡ false
 different_name a b different =
     (elim (bytes_eq a b) as (λ v. bytes_eq a b ≡ v → v ≡ false) [
-        true ↦ (λ e. absurd (different ((bytes_eq-Decides a b).0 e))) | false ↦ (λ e. refl)
+      | true ↦ (λ e. absurd (different ((bytes_eq-Decides a b).0 e)))
+      | false ↦ (λ e. refl)
     ]) refl
 
 same_name : (name : List ℕ) → bytes_eq name name ≡ true
@@ -76,7 +78,8 @@ pub content-written_same : (files : List NamedFile) (name bytes : List ℕ) → 
 content-written_same [] name bytes = rw (same_name name)
 content-written_same (f ∷ files) name bytes =
     (elim (has_name name f) as (λ b. has_name name f ≡ b → content (cond b (named_file name bytes ∷ files) (f ∷ written files name bytes)) name ≡ Some bytes) [
-        true ↦ (λ e. rw (same_name name)) | false ↦ (λ e. rw e (content-written_same files name bytes))
+      | true ↦ (λ e. rw (same_name name))
+      | false ↦ (λ e. rw e (content-written_same files name bytes))
     ]) refl
 
 pub content-written_other : (files : List NamedFile) (name bytes other : List ℕ) → other ≢ name → content (written files name bytes) other ≡ content files other
@@ -85,10 +88,10 @@ content-written_other [] name bytes other different =
 content-written_other (f ∷ files) name bytes other different =
     let no : bytes_eq name other ≡ false = different_name name other (λ (e : name ≡ other). different (sym e)) in
     (elim (has_name name f) as (λ b. has_name name f ≡ b → content (cond b (named_file name bytes ∷ files) (f ∷ written files name bytes)) other ≡ content (f ∷ files) other) [
-        true ↦ (λ e. let here : f.name ≡ name = (bytes_eq-Decides f.name name).0 e in
-            let also : bytes_eq f.name other ≡ false = ap (λ n. bytes_eq n other) here ∙ no in
-            rw (no, also))
-        | false ↦ (λ e. ap (λ rest. cond (has_name other f) (Some f.bytes) rest) (content-written_other files name bytes other different))
+      | true ↦ (λ e. let here : f.name ≡ name = (bytes_eq-Decides f.name name).0 e in
+          let also : bytes_eq f.name other ≡ false = ap (λ n. bytes_eq n other) here ∙ no in
+          rw (no, also))
+      | false ↦ (λ e. ap (λ rest. cond (has_name other f) (Some f.bytes) rest) (content-written_other files name bytes other different))
     ]) refl
 
 pub ruleset place_laws = (content-place, content-no_place, written-place, written-no_place)

@@ -6,21 +6,24 @@ ghost use Rattle.guard_io.specs.Host.{with_failed_load, with_failed_save, AreFir
 ghost use Rattle.guard_io.specs.Memory.{raised};
 ghost use Rattle.guard_io.specs.Outside.{Rose};
 
-use std::alloc::Global;
-use std::io::{self, Print, Read, Write};
-use std::fs;
-use std::marker::Model;
-use std::rt::Files;
-
 use crate::counts::raise;
 use crate::{LoadErr, PutErr, SaveErr, Shelf, Sink};
+use std::alloc::Global;
+use std::fs;
+use std::io::{Read, Write};
+use std::marker::Model;
+use std::rt::Files;
 
 /// An error outside the program.
 #[derive(Drop)]
 pub(crate) struct Fault;
 
 /// Reads the first bytes, at most so many, in as many pieces as it takes.
-pub(crate) fn read_front<S: Read>(source: &mut S, alloc: Global, most: usize) -> Result<Vec<u8>, LoadErr>
+pub(crate) fn read_front<S: Read>(
+    source: &mut S,
+    alloc: Global,
+    most: usize,
+) -> Result<Vec<u8>, LoadErr>
     ensures most { IfOk result (λ bytes. vec_len bytes ≤ most) }
     ensures bytes { IfOk result (λ bytes. AreFirstLeft (S.remaining source.old) most bytes.items) }
 {
@@ -164,50 +167,45 @@ impl<R: Files> Shelf for HostShelf<R> {
     ghost steady_tells = { λ _ steady. steady };
 }
 
-/// The standard output.
+/// Output through a writer, as that of the standard output.
 #[derive(Drop)]
-pub struct HostSink<R> {
-    rt: R,
+pub struct HostSink<W> {
+    out: W,
     faults: u64,
 }
 
-impl<R> Model for HostSink<R> {
-    ghost use Rattle.std.specs.Prelude.{ℕ};
-
-    ghost Value = { ℕ };
-
-    ghost view = { λ s. s.faults };
-}
-
-impl<R: Print> HostSink<R> {
-    /// The standard output of the runtime.
-    pub fn new(rt: R) -> HostSink<R>
-        ensures { result ≡ 0 }
+impl<W: Write> HostSink<W> {
+    /// Output through this writer.
+    pub fn new(out: W) -> HostSink<W>
+        ensures { result ≡ record { out = out; faults = 0 } }
     {
-        HostSink { rt, faults: 0 }
+        HostSink { out, faults: 0 }
     }
 }
 
-impl<R: Print> Sink for HostSink<R> {
+impl<W: Write> Sink for HostSink<W> {
     ghost tells = { λ _. false };
 
     ghost written = { λ _. [] };
 
     ghost steady = { λ _. false };
 
-    ghost faults = { λ s. s };
+    ghost faults = { λ s. s.faults };
 
     fn put(&mut self, bytes: &[u8]) -> Result<(), PutErr>
-        ensures count { self.old ≤ self.new }
-        ensures failed { result ≡ Err PutErr.Failed → Rose self.old self.new }
+        ensures count { self.old.faults ≤ self.new.faults }
+        ensures failed { result ≡ Err PutErr.Failed → Rose self.old.faults self.new.faults }
         ensures never_memory { result ≢ Err PutErr.Memory }
 
         // The count does not rise but for a call that fails.
-        ensures after { OnOk result (self.new ≡ self.old) }
-        ensures after_fault { result ≡ Err PutErr.Failed → self.new ≡ raised self.old }
+        ensures after { OnOk result (self.new.faults ≡ self.old.faults) }
+        ensures after_fault { result ≡ Err PutErr.Failed → self.new.faults ≡ raised self.old.faults }
+
+        // What is known of the writer's bytes grows by the bytes, or by a first part of them.
+        ensures whole { OnOk result (Appends (W.contents self.old.out) (W.contents self.new.out) bytes.now) }
+        ensures first_part { OnErr result (AppendsPart (W.contents self.old.out) (W.contents self.new.out) bytes.now) }
     {
-        let mut out = io::writer(&self.rt);
-        match write_whole(&mut out, bytes) {
+        match write_whole(&mut self.out, bytes) {
             Ok(()) => Ok(()),
             Err(Fault) => {
                 self.faults = raise(self.faults);

@@ -11,8 +11,8 @@ mod sink;
 #[cfg(test)]
 mod tests;
 
-pub use host::{HostShelf, HostSink};
 pub use errors::{LoadErr, PutErr, SaveErr};
+pub use host::{HostShelf, HostSink};
 pub use mem_shelf::{MemShelf, NamedFile, have_different_names};
 pub use mem_sink::MemSink;
 pub use shelf::Shelf;

@@ -4,12 +4,11 @@ ghost use Rattle.std.specs.Prelude.{◌≡◌, ◌≢◌, ◌≤◌, ◌↔◌, 
 ghost use Rattle.guard_io.specs.Memory.{content, written, names_differ, is_named, place, new_shelf, is_listed, is_steady_shelf, content_of, FailsToLoad, with_call, with_file, with_load_fault, with_save_fault};
 ghost use Rattle.guard_io.specs.Outside.{Rose, IsLoaded, SameFiles, SameOthers, IsPartlySaved};
 
-use std::alloc::{AllocError, Global};
-use std::marker::Model;
-
 use crate::counts::{is_made_to_fail, raise};
 use crate::{LoadErr, SaveErr, Shelf};
 use elf_model::{Bytes, Name};
+use std::alloc::{AllocError, Global};
+use std::marker::Model;
 
 /// A file of a shelf in memory.
 #[derive(Debug, Drop)]
@@ -48,11 +47,11 @@ impl Model for MemShelf {
     ghost Value = { MemoryShelf };
 
     ghost view = { λ s. record {
-        files = s.files.items;
-        fail = s.fail.items;
-        calls = s.calls;
-        load_faults = s.load_faults;
-        save_faults = s.save_faults;
+      files = s.files.items;
+      fail = s.fail.items;
+      calls = s.calls;
+      load_faults = s.load_faults;
+      save_faults = s.save_faults;
     } };
 }
 
@@ -95,7 +94,12 @@ fn copy_of(alloc: Global, bytes: &[u8], most: usize) -> Result<Vec<u8>, AllocErr
 
 /// Makes the bytes the content of a file.
 #[tactic(auto, using(crate::proofs::Files::place_laws))]
-fn write_file(alloc: Global, files: &mut Vec<NamedFile>, name: &[u8], bytes: &[u8]) -> Result<(), AllocError>
+fn write_file(
+    alloc: Global,
+    files: &mut Vec<NamedFile>,
+    name: &[u8],
+    bytes: &[u8],
+) -> Result<(), AllocError>
     ensures ok { OnOk result (files.new.items ≡ written files.old.items name.now bytes.now) }
     ensures err { OnErr result (files.new.items ≡ files.old.items) }
 {

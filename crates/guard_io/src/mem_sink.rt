@@ -4,11 +4,10 @@ ghost use Rattle.std.specs.Prelude.{◌≡◌, ◌≢◌, ◌≤◌, ◌↔◌, 
 ghost use Rattle.guard_io.specs.Memory.{new_sink, is_listed, is_steady_sink, with_bytes, with_put, with_put_fault};
 ghost use Rattle.guard_io.specs.Outside.{Rose, IsPartlyPut};
 
-use std::alloc::Global;
-use std::marker::Model;
-
 use crate::counts::{is_made_to_fail, raise};
 use crate::{PutErr, Sink};
+use std::alloc::Global;
+use std::marker::Model;
 
 /// A sink that tells what was put. The calls that are made to fail are listed by their numbers, which
 /// count all calls from 0, however they end, and stand still at 2^64 - 1.
@@ -26,10 +25,10 @@ impl Model for MemSink {
     ghost Value = { MemorySink };
 
     ghost view = { λ s. record {
-        bytes = s.bytes.items;
-        fail = s.fail.items;
-        calls = s.calls;
-        faults = s.faults;
+      bytes = s.bytes.items;
+      fail = s.fail.items;
+      calls = s.calls;
+      faults = s.faults;
     } };
 }
 

@@ -1,15 +1,14 @@
-use std::alloc::{AllocError, Global};
-use std::fs;
-use std::io::{self, Read, Write};
-use std::process::Abort;
-use std::test::Fail;
-
 use crate::host::{read_front, write_whole};
 use crate::{
     HostShelf, HostSink, LoadErr, MemShelf, MemSink, NamedFile, PutErr, SaveErr, Shelf, Sink,
     have_different_names,
 };
 use elf_model::Name;
+use std::alloc::{AllocError, Global};
+use std::fs;
+use std::io::{self, Read, Write};
+use std::process::Abort;
+use std::test::Fail;
 
 fn named(alloc: Global, name: &str, bytes: &[u8]) -> Result<NamedFile, AllocError> {
     let name = Name::new(Vec::from_slice(alloc, name.as_bytes())?);
@@ -70,7 +69,10 @@ fn listed_calls_on_a_shelf_fail(rt: HostRuntime) -> Result<(), Fail> {
     let mut shelf = two_files(&rt, rt.alloc(), &[1, 3])?;
     assert_eq!(rt; shelf.load(rt.alloc(), "c", 9).err(), Some(LoadErr::Failed));
     assert_eq!(rt; shelf.load(rt.alloc(), "a", 9).err(), Some(LoadErr::Failed));
-    assert_eq!(rt; shelf.load(rt.alloc(), "a", 9)?.as_slice(), [1, 2, 3].as_slice());
+    assert_eq!(rt;
+        shelf.load(rt.alloc(), "a", 9)?.as_slice(),
+        [1, 2, 3].as_slice()
+    );
     assert_eq!(rt; shelf.save("a", &[4]), Err(SaveErr::Failed));
     assert_eq!(rt; shelf.file("a"), Some([1, 2, 3].as_slice()));
     assert_eq!(rt; shelf.save("a", &[4]), Ok(()));
@@ -110,15 +112,30 @@ fn a_real_file_is_saved_and_loaded(rt: HostRuntime) -> Result<(), Fail> {
 #[test]
 fn a_real_file_that_is_missing_is_a_fault(rt: HostRuntime) -> Result<(), Fail> {
     let mut shelf = HostShelf::new(rt);
-    assert_eq!(rt; shelf.load(rt.alloc(), "guard_io.missing", 9).err(), Some(LoadErr::Failed));
-    assert_eq!(rt; shelf.save("guard_io.missing/a", &[1]), Err(SaveErr::Failed));
+    assert_eq!(rt;
+        shelf.load(rt.alloc(), "guard_io.missing", 9).err(),
+        Some(LoadErr::Failed)
+    );
+    assert_eq!(rt;
+        shelf.save("guard_io.missing/a", &[1]),
+        Err(SaveErr::Failed)
+    );
     Ok(())
 }
 
 #[test]
 fn the_standard_output_takes_bytes(rt: HostRuntime) -> Result<(), Fail> {
-    let mut sink = HostSink::new(rt);
+    let mut sink = HostSink::new(rt.stdout());
     assert_eq!(rt; sink.put(b"guard_io\n"), Ok(()));
+    assert_eq!(rt; sink.put(&[]), Ok(()));
+    Ok(())
+}
+
+#[test]
+fn a_full_writer_is_a_fault(rt: HostRuntime) -> Result<(), Fail> {
+    let mut sink = HostSink::new(Narrow { room: 5 });
+    assert_eq!(rt; sink.put(b"abc"), Ok(()));
+    assert_eq!(rt; sink.put(b"abc"), Err(PutErr::Failed));
     assert_eq!(rt; sink.put(&[]), Ok(()));
     Ok(())
 }
@@ -164,11 +181,25 @@ impl Write for Narrow {
 #[test]
 fn an_error_in_mid_stream_is_told(rt: HostRuntime) -> Result<(), Fail> {
     let mut whole = Trickle { left: 3 };
-    assert_eq!(rt; read_front(&mut whole, rt.alloc(), 3)?.as_slice(), [3, 2, 1].as_slice());
+    assert_eq!(rt;
+        read_front(&mut whole, rt.alloc(), 3)?.as_slice(),
+        [3, 2, 1].as_slice()
+    );
     let mut torn = Trickle { left: 3 };
-    assert_eq!(rt; read_front(&mut torn, rt.alloc(), 4).err(), Some(LoadErr::Failed));
-    for (room, text, fits) in [(5, b"abcde", true), (4, b"abcde", false), (0, b"abcde", false)] {
-        assert_eq!(rt; write_whole(&mut Narrow { room }, text).is_ok(), fits, "room {room}");
+    assert_eq!(rt;
+        read_front(&mut torn, rt.alloc(), 4).err(),
+        Some(LoadErr::Failed)
+    );
+    for (room, text, fits) in [
+        (5, b"abcde", true),
+        (4, b"abcde", false),
+        (0, b"abcde", false),
+    ] {
+        assert_eq!(rt;
+            write_whole(&mut Narrow { room }, text).is_ok(),
+            fits,
+            "room {room}"
+        );
     }
     Ok(())
 }
