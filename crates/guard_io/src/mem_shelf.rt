@@ -53,6 +53,11 @@ impl Model for MemShelf {
       load_faults = s.load_faults;
       save_faults = s.save_faults;
     } };
+
+    ghost use Rattle.std.specs.Prelude.{IsTrue};
+    ghost use Rattle.guard_io.specs.Memory.{names_differ};
+
+    ghost invariant = { λ s. IsTrue (names_differ s.files.items) };
 }
 
 /// Whether no two of the files have one name.
@@ -93,7 +98,7 @@ fn copy_of(alloc: Global, bytes: &[u8], most: usize) -> Result<Vec<u8>, AllocErr
 }
 
 /// Makes the bytes the content of a file.
-#[tactic(auto, using(crate::proofs::Files::place_laws))]
+#[tactic(auto, using(crate::proofs::Files::place_laws, crate::proofs::Files::name_laws))]
 fn write_file(
     alloc: Global,
     files: &mut Vec<NamedFile>,
@@ -102,6 +107,7 @@ fn write_file(
 ) -> Result<(), AllocError>
     ensures ok { OnOk result (files.new.items ≡ written files.old.items name.now bytes.now) }
     ensures err { OnErr result (files.new.items ≡ files.old.items) }
+    ensures names { IsTrue (names_differ files.old.items) → IsTrue (names_differ files.new.items) }
 {
     let kept = Vec::from_slice(alloc, bytes)?;
     let file = NamedFile::new(Name::new(Vec::from_slice(alloc, name)?), kept);
