@@ -57,14 +57,14 @@ pub record IsMoves (code : List ℕ) : Type 0 where
 
 IsMoves-more : (low high : ℕ) (rest : List ℕ) → low < 256 → high < 256 → eqb (high / 8) 4 ≡ true → IsMoves rest → IsMoves (low ∷ high ∷ rest)
 IsMoves-more low high rest l h move m = record {
-    halves = (low + 256 * high) ∷ m.halves;
-    each = All-cons IsMove _ m.halves (is_move low high l (eqb-true (high / 8) 4 move)) m.each;
-    bytes =
+  halves = (low + 256 * high) ∷ m.halves;
+  each = All-cons IsMove _ m.halves (is_move low high l (eqb-true (high / 8) 4 move)) m.each;
+  bytes =
       let a = low_byte low high l h in
       let b = high_byte low high l h in
       let e = m.bytes in
       cc;
-  }
+}
 
 moves_from : (code : List ℕ) → are_moves code ≡ true → AreBytes code → IsMoves code
 moves_from [] h bytes = record { halves = []; each = λ k d l. absurd (omega arith); bytes = refl }

@@ -16,16 +16,12 @@ record HasCode (bytes : List ℕ) : Type 0 where
 
 code_of_form : (bytes : List ℕ) → HasFirstForm bytes → HasCode bytes
 code_of_form bytes (o, (halves, sound, is), e) = record {
-    code = code_bytes halves;
-    sound = record { halves = halves; sound = sound; bytes = refl };
-    around = e ∙ ap canonical is ∙ canonical-first (code_bytes halves);
-  }
+  code = code_bytes halves;
+  sound = record { halves = halves; sound = sound; bytes = refl };
+  around = e ∙ ap canonical is ∙ canonical-first (code_bytes halves);
+}
 
 pub not_yet : (bytes : List ℕ) (d : Deny) → d ≡ Refused (at_start NotYet) → IsElf bytes
     → ((code : List ℕ) → IsFirstBytes code → bytes ≡ first_file code → ⊥) → IsDenied bytes d
 not_yet bytes d e elf none =
     subst (λ (x : Deny). IsDenied bytes x) (sym e) (inr (refl, elf, λ form. let h = code_of_form bytes form in none h.code h.sound h.around))
-
--- the object with code of the first form has this form
-pub is_first_object : (code : List ℕ) → IsFirstBytes code → IsFirstObject (object_with code)
-is_first_object code f = (f.halves, f.sound, ap object_with f.bytes)

@@ -7,13 +7,13 @@ ghost use Rattle.elf_read.specs.FirstForm.{IsFirstObject, IsDenied, at_start};
 
 mod file;
 mod form;
-
-use std::alloc::Global;
+#[cfg(test)]
+mod tests;
 
 use elf_model::{Deny, Limit, Object, Refusal, Spot};
-
 use file::{first_file, first_object};
 use form::{code_of, is_elf};
+use std::alloc::Global;
 
 /// An object that was read, and how many sections were left out: those of debug information and of
 /// unwind tables, and others that no linked program has.

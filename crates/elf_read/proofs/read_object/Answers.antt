@@ -23,10 +23,10 @@ pub returns-then-ne-clause-refused : goal.returns-then-ne-clause-refused
 returns-then-ne-clause-refused c =
     let bytes = c.args.bytes.now in
     not_yet bytes _ c.refused-then-ne.ensures (c.is_elf.ensures.0 (search rules)) (λ code f e.
-      let same = c.in-Some.ensures.found code f e in
-      let file = c.as_slice.ensures.value ∙ c.in_ok-file.ensures ∙ ap first_file same ∙ sym e in
-      let equal = (bytes_eq-Decides _ bytes).1 file in
-      false≢true (sym (ap not equal) ∙ sym c.ne.ensures ∙ c.if-ne.true))
+    let same = c.in-Some.ensures.found code f e in
+    let file = c.as_slice.ensures.value ∙ c.in_ok-file.ensures ∙ ap first_file same ∙ sym e in
+    let equal = (bytes_eq-Decides _ bytes).1 file in
+    false≢true (sym (ap not equal) ∙ sym c.ne.ensures ∙ c.if-ne.true))
 
 not_not : (b : Bool) → not b ≡ false → b ≡ true
 not_not true h = refl

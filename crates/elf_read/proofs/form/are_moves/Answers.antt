@@ -10,7 +10,7 @@ returns-then-code-i-lt2 c =
     let xs = c.args.code.now in
     let i = c.loop-i.i in
     elim c.then-code-i-lt2.branch [
-        then-code-i-lt2-via-then-code-i-lt2 w ↦ sym (moves_odd xs i (omega arith)) ∙ c.loop-i.invariant.1
+      | then-code-i-lt2-via-then-code-i-lt2 w ↦ sym (moves_odd xs i (omega arith)) ∙ c.loop-i.invariant.1
       | then-code-i-lt2-via-else-code-i-lt2+then-code-i-ne4 w ↦
           ap (λ b. b && are_moves (drop (i + 2) xs)) (sym (ne_eqb _ 4 w.if-code-i-ne4.true)) ∙ sym (moves_more xs i (omega arith)) ∙ c.loop-i.invariant.1
     ]
