@@ -7,6 +7,7 @@ use Rattle.elf_read.specs.FirstFile.{first_file}
 use Rattle.elf_read.proofs.Frame.{canonical-first}
 use Rattle.elf_read.proofs.Moves.{first_short}
 use Rattle.elf_read.proofs.Refusing.{not_yet}
+use Rattle.elf_read.proofs.Standing.{stands_first}
 use Rattle.elf_read.proofs.read_object.Goals as goal
 
 pub returns-in_default-clause-refused : goal.returns-in_default-clause-refused
@@ -32,8 +33,14 @@ not_not : (b : Bool) → not b ≡ false → b ≡ true
 not_not true h = refl
 not_not false h = cc
 
-pub returns-clause-file : goal.returns-clause-file
-returns-clause-file c =
-    let bytes = c.args.bytes.now in
-    let same = (bytes_eq-Decides _ bytes).0 (not_not _ (sym c.ne.ensures ∙ c.if-ne.false)) in
+file_is : goal.returns-clause-file
+file_is c =
+    let same = (bytes_eq-Decides _ c.args.bytes.now).0 (not_not _ (sym c.ne.ensures ∙ c.if-ne.false)) in
     sym same ∙ c.as_slice.ensures.value ∙ c.in_ok-file.ensures ∙ sym (canonical-first c.in-Some.code.now) ∙ ap canonical (sym c.in_ok-object.ensures)
+
+pub returns-clause-file : goal.returns-clause-file
+returns-clause-file c = file_is c
+
+pub returns-clause-object : goal.returns-clause-object
+returns-clause-object c =
+    stands_first c.args.bytes.now c.in-Some.code.now _ (first_short _ c.in-Some.ensures.sound) (file_is c) c.in_ok-object.ensures
