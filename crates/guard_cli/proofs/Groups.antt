@@ -85,7 +85,7 @@ pub returns_of : (code : CodeBytes) (skips : ℕ → Bool) (n : ℕ) (s t : Stat
 returns_of code skips n s t over c = record { steps = c.steps; within = c.within; runs = c.runs; over = over }
 
 -- outside of a block the IT state stays
-it_stays : (x : Core) → x.it ≡ 0 → record x { it = it_after x.it } ≡ x
+pub it_stays : (x : Core) → x.it ≡ 0 → record x { it = it_after x.it } ≡ x
 it_stays x e = ap (λ k. record x { it = k }) (ap it_after e ∙ sym e)
 
 -- one executed step

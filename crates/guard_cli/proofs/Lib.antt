@@ -1,2 +1,4 @@
 mod Examples
 pub mod Groups
+pub mod Sequences
+pub mod FirstRuns
