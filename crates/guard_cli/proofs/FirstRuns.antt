@@ -11,6 +11,7 @@ use Rattle.guard_cli.specs.States.{CodeBytes, Core, State, Change, Outcome, Site
 use Rattle.guard_cli.specs.Steps.{Fetched, fetch, place_in_block, takes_effect, goes_on, executed, step_of}
 use Rattle.guard_cli.specs.Schedules.{exit}
 use Rattle.guard_cli.proofs.Groups.{Makes, Leaps, it_stays}
+use Rattle.guard_cli.proofs.Sequences.{Settles}
 
 -- an instruction of one halfword
 abbrev pub narrow : ℕ → Fetched
@@ -67,3 +68,22 @@ pub does : (code : CodeBytes) (f : Fetched) (a : ℕ) (x : Core) (i : Instr) (h 
 does code f a x i h it ed ec =
     let ep : place_in_block x.it ≡ Outside = ap place_in_block it in
     rw (ep, ed, takes x it, ec)
+
+-- A move settles at once, wherever it stands.
+pub move_settles : (code : CodeBytes) (h : ℕ) (x : Core) → IsMove h → x.it ≡ 0 → Settles code (narrow h) x (after_move h x)
+move_settles code h x e it =
+    let d = h / 256 % 8 in
+    let i = h % 256 in
+    let once = λ (a : ℕ) (y : Core) (c : y.it ≡ 0). does code (narrow h) a y (Move Mov true d (Imm i)) (register_set d i y) c (decode_move h e) (change_move d i (record { code = code; address = a; width = 2 }) y (omega arith) (omega arith)) in
+    record {
+      makes = λ a. once a x it ∙ ap (λ y. Ok (at (a + 2) (set_register d i y))) (it_stays x it);
+      keeps = λ a. once a (after_move h x) it ∙ ap (λ y. Ok (at (a + 2) y)) (ap (λ y. set_register d i y) (it_stays (after_move h x) it) ∙ set_again d i x);
+      clear = it;
+    }
+
+-- The return ends the call, and changes nothing else.
+pub return_leaps : (code : CodeBytes) (a : ℕ) (x : Core) → IsReady x → Leaps code (narrow return_half) a x exit x
+return_leaps code a x r =
+    let e : jump_to (read x 14).bits unchanged ≡ Ok (record unchanged { exit = Jumps 0x7FFFFFFE }) = ap (λ (w : Word). jump_to w.bits unchanged) r.lr in
+    does code (narrow return_half) a x (Jump 14) (record unchanged { exit = Jumps 0x7FFFFFFE }) r.clear refl e
+    ∙ ap (λ y. Ok (at exit y)) (it_stays x r.clear)
