@@ -1,21 +1,21 @@
 -- Runs of code of the first form, plain and doubled.
-use Rattle.std.proofs.Common.{◌≡◌, ◌≢◌, ℕ, zero, suc, ◌+◌, ◌-◌, ◌*◌, ◌/◌, ◌%◌, ◌^◌, ◌<◌, ◌≤◌, ◌==◌, Bool, true, false, List, [], ◌∷◌, ◌++◌, length, drop, Option, Some, None, Result, Ok, Err, refl, sym, ap, ◌∙◌, subst, arith, get_or-set_same, get_or-set_other, length-set}
-use Rattle.std.specs.Prelude.{nat_le, slice_set}
-use Rattle.std.proofs.lemmas.Bool.{eq-eqb, ne_eqb}
-use Rattle.std.proofs.lemmas.List.{set-set}
-use Rattle.elf_read.specs.FirstForm.{IsMove, return_half}
+use Rattle.std.proofs.Common.{◌≡◌, ◌≢◌, ℕ, zero, suc, ◌+◌, ◌-◌, ◌*◌, ◌/◌, ◌%◌, ◌^◌, ◌<◌, ◌≤◌, ◌==◌, ⊎_elim, Bool, true, false, List, [], ◌∷◌, ◌++◌, length, map, Option, Some, None, Result, Ok, Err, refl, sym, ap, ◌∙◌, subst, arith, get_or-set_same, get_or-set_other, length-set}
+use Rattle.std.specs.Prelude.{slice_set, All}
+use Rattle.std.proofs.lemmas.Bool.{ne_eqb, cases_eq}
+use Rattle.std.proofs.lemmas.List.{set-set, map-append, length-map, length-append}
+use Rattle.std.proofs.lemmas.List.Elements.{All-nil, All-cons, All-head, All-tail, All-weaker, All-push}
+use Rattle.std.proofs.lemmas.Grind.{flat_map-append}
+use Rattle.elf_read.specs.FirstForm.{IsMove, IsFirstCode, return_half, code_bytes}
 use Rattle.guard_cli.specs.Marks.{Word, Plain, Return, plain}
 use Rattle.guard_cli.specs.Formulas.{expand_imm, Shifted}
 use Rattle.guard_cli.specs.Instructions.{Instr, Move, Mov, Imm, Jump, Outside, Answer, decode, is_wide}
-use Rattle.guard_cli.specs.States.{CodeBytes, Core, State, Change, Outcome, Site, Exit, Falls, Jumps, at, read, change, applied, unchanged, jump_to}
+use Rattle.guard_cli.specs.States.{CodeBytes, Core, State, Change, Outcome, Site, Exit, Falls, Jumps, Memory, at, read, change, applied, unchanged, jump_to}
 use Rattle.guard_cli.specs.Steps.{Fetched, fetch, place_in_block, takes_effect, goes_on, executed, step_of}
-use Rattle.guard_cli.specs.Schedules.{exit}
-use Rattle.guard_cli.proofs.Groups.{Makes, Leaps, it_stays}
-use Rattle.guard_cli.proofs.Sequences.{Settles}
-
--- an instruction of one halfword
-abbrev pub narrow : ℕ → Fetched
-narrow h = record { first = h; second = 0; width = 2 }
+use Rattle.guard_cli.specs.Schedules.{run, exit, Returns}
+use Rattle.guard_cli.specs.Output.{doubled}
+use Rattle.guard_cli.proofs.Groups.{Legal, Makes, Leaps, JumpGroup, Comes, it_stays, steps_to, first_step, run_on, comes_on, returns_of, jump_group}
+use Rattle.guard_cli.proofs.Sequences.{Stands, Chain, Settles, copied, stands_split, sequence, ends_once}
+use Rattle.guard_cli.proofs.Standing.{narrow, IsNarrow, stands_all, fetch_past, doubled_copies, single_copies, length-code_bytes}
 
 -- `movs d, #i`
 abbrev pub set_register : ℕ → ℕ → Core → Core
@@ -87,3 +87,74 @@ return_leaps code a x r =
     let e : jump_to (read x 14).bits unchanged ≡ Ok (record unchanged { exit = Jumps 0x7FFFFFFE }) = ap (λ (w : Word). jump_to w.bits unchanged) r.lr in
     does code (narrow return_half) a x (Jump 14) (record unchanged { exit = Jumps 0x7FFFFFFE }) r.clear refl e
     ∙ ap (λ y. Ok (at exit y)) (it_stays x r.clear)
+
+-- what moves keep
+pub record IsMoved (x y : Core) : Type 0 where
+  pub count : length y.regs ≡ length x.regs
+  pub clear : y.it ≡ x.it
+  pub c : y.c ≡ x.c
+  pub v : y.v ≡ x.v
+  pub memory : y.memory ≡ x.memory
+  -- Moves write r0 to r7 only.
+  pub high : (r : ℕ) → 8 ≤ r → read y r ≡ read x r
+  pub plain : (r : ℕ) → (read x r).mark ≡ Plain → (read y r).mark ≡ Plain
+
+moved_once : (h : ℕ) (x : Core) → length x.regs ≡ 15 → IsMoved x (after_move h x)
+moved_once h x len =
+    let d = h / 256 % 8 in
+    let w : Word = plain (h % 256) in
+    let inside : d < length x.regs = omega arith in
+    record {
+      count = length-set x.regs d w;
+      clear = refl;
+      c = refl;
+      v = refl;
+      memory = refl;
+      high = λ r ge. get_or-set_other x.regs d r w (plain 0) (omega arith);
+      plain = λ r m. ⊎_elim
+          (λ (e : r ≡ d). rw (e, get_or-set_same x.regs d w (plain 0)))
+          (λ (ne : r ≢ d). ap (λ (u : Word). u.mark) (get_or-set_other x.regs d r w (plain 0) ne) ∙ m)
+          (cases_eq r d);
+    }
+
+pub after_moves_plain : (moves : List ℕ) (x : Core) → length x.regs ≡ 15 → IsMoved x (after_moves moves x)
+after_moves_plain [] x len = record { count = refl; clear = refl; c = refl; v = refl; memory = refl; high = λ r ge. refl; plain = λ r m. m }
+after_moves_plain (h ∷ hs) x len =
+    let a = moved_once h x len in
+    let b = after_moves_plain hs (after_move h x) (a.count ∙ len) in
+    record {
+      count = b.count ∙ a.count;
+      clear = b.clear ∙ a.clear;
+      c = b.c ∙ a.c;
+      v = b.v ∙ a.v;
+      memory = b.memory ∙ a.memory;
+      high = λ r ge. b.high r ge ∙ a.high r ge;
+      plain = λ r m. b.plain r (a.plain r m);
+    }
+
+pub still_ready : (moves : List ℕ) (x : Core) → IsReady x → IsReady (after_moves moves x)
+still_ready moves x r =
+    let m = after_moves_plain moves x r.count in
+    record { count = m.count ∙ r.count; clear = m.clear ∙ r.clear; lr = m.high 14 (omega arith) ∙ r.lr }
+
+moves_chain : (code : CodeBytes) (moves : List ℕ) (x : Core) → All IsMove moves → x.it ≡ 0 → Chain code (map narrow moves) x (after_moves moves x)
+moves_chain code [] x all it = refl
+moves_chain code (h ∷ hs) x all it =
+    (after_move h x, move_settles code h x (All-head IsMove h hs all) it, moves_chain code hs (after_move h x) (All-tail IsMove h hs all) it)
+
+narrow_move : (h : ℕ) → IsMove h → IsNarrow h
+narrow_move h e = record { low = omega arith; alone = rw e }
+
+narrow_halves : (halves : List ℕ) → IsFirstCode halves → All IsNarrow halves
+narrow_halves halves first =
+    let last : IsNarrow return_half = record { low = omega arith; alone = refl } in
+    subst (All IsNarrow) (sym first.ends) (All-push IsNarrow first.moves return_half (All-weaker IsMove IsNarrow narrow_move first.moves first.each) last)
+
+narrow_doubled : (halves : List ℕ) → All IsNarrow halves → All IsNarrow (doubled halves)
+narrow_doubled [] all = All-nil IsNarrow
+narrow_doubled (h ∷ hs) all =
+    let one = All-head IsNarrow h hs all in
+    All-cons IsNarrow h (h ∷ doubled hs) one (All-cons IsNarrow h (doubled hs) one (narrow_doubled hs (All-tail IsNarrow h hs all)))
+
+length_of : (halves : List ℕ) → (first : IsFirstCode halves) → length halves ≡ length first.moves + 1
+length_of halves first = ap length first.ends ∙ length-append first.moves (return_half ∷ [])
