@@ -158,3 +158,51 @@ narrow_doubled (h ∷ hs) all =
 
 length_of : (halves : List ℕ) → (first : IsFirstCode halves) → length halves ≡ length first.moves + 1
 length_of halves first = ap length first.ends ∙ length-append first.moves (return_half ∷ [])
+
+-- THE PLAIN RUN: one step for each instruction, to the end of the call
+pub plain_run : (code : CodeBytes) (halves : List ℕ) → (first : IsFirstCode halves) → code.bytes ≡ code_bytes halves → (x : Core) → IsReady x → run code (λ i. false) (length halves) 0 (at code.base x) ≡ Ok (at exit (after_moves first.moves x))
+plain_run code halves first bytes x ready =
+    let moves = first.moves in
+    let y = after_moves moves x in
+    let q = code.base + 2 * length halves in
+    let cut : map narrow halves ≡ map narrow moves ++ narrow return_half ∷ [] = ap (map narrow) first.ends ∙ map-append narrow moves (return_half ∷ []) in
+    let st = subst (λ l. Stands code l code.base q) cut (stands_all code halves bytes (narrow_halves halves first)) in
+    let parts = stands_split code (map narrow moves) (narrow return_half ∷ []) code.base q st in
+    let front = subst (λ l. Stands code l code.base parts.0) (single_copies (map narrow moves)) parts.1 in
+    let n = 1 * length (map narrow moves) in
+    let legal : Legal 1 (λ i. false) = λ i. (0, omega arith, refl) in
+    let body = sequence code (λ i. false) 1 legal (map narrow moves) 0 code.base parts.0 x y ready.clear front (moves_chain code moves x first.each ready.clear) in
+    let leap = steps_to code (narrow return_half) parts.0 y (at exit y) parts.2.0 (return_leaps code parts.0 y (still_ready moves x ready)) in
+    let last = first_step code (λ i. false) 0 n (at parts.0 y) (at exit y) false refl leap in
+    let count : n + 1 ≡ length halves = omega (arith, length-map moves narrow, length_of halves first) in
+    run_on code (λ i. false) n 1 (length halves) 0 n (at code.base x) (at parts.0 y) count (omega arith) body ∙ last
+
+-- Each plain call of the code ends there, after as many steps.
+pub plain_end : (code : CodeBytes) (halves : List ℕ) → (first : IsFirstCode halves) → code.bytes ≡ code_bytes halves → code.base + 2 * length halves ≤ 0x7FFFF000 → (x : Core) → IsReady x → (n : ℕ) (t : State) → (r : Returns code (λ i. false) n (at code.base x) t) → (r.steps ≡ length halves) × (t ≡ at exit (after_moves first.moves x))
+plain_end code halves first bytes room x ready n t r =
+    let none = fetch_past code exit (omega (arith, ap length bytes, length-code_bytes halves)) in
+    ends_once code (λ i. false) r.steps (length halves) 0 (at code.base x) t (at exit (after_moves first.moves x)) none r.over refl r.runs (plain_run code halves first bytes x ready)
+
+-- THE HARDENED RUN: each instruction twice, under each legal schedule
+pub hard_run : (code : CodeBytes) (halves : List ℕ) → (first : IsFirstCode halves) → code.bytes ≡ code_bytes (doubled halves) → (x : Core) → IsReady x → (skips : ℕ → Bool) → Legal 2 skips → Returns code skips (2 * length halves) (at code.base x) (at exit (after_moves first.moves x))
+hard_run code halves first bytes x ready skips legal =
+    let moves = first.moves in
+    let y = after_moves moves x in
+    let q = code.base + 2 * length (doubled halves) in
+    let pair = narrow return_half ∷ narrow return_half ∷ [] in
+    let cut : map narrow (doubled halves) ≡ map narrow (doubled moves) ++ pair =
+    ap (λ l. map narrow (doubled l)) first.ends
+    ∙ ap (map narrow) (flat_map-append (λ h. h ∷ h ∷ []) moves (return_half ∷ []))
+    ∙ map-append narrow (doubled moves) (return_half ∷ return_half ∷ []) in
+    let st = subst (λ l. Stands code l code.base q) cut (stands_all code (doubled halves) bytes (narrow_doubled halves (narrow_halves halves first))) in
+    let parts = stands_split code (map narrow (doubled moves)) pair code.base q st in
+    let front = subst (λ l. Stands code l code.base parts.0) (doubled_copies moves) parts.1 in
+    let n = 2 * length (map narrow moves) in
+    let body = sequence code skips 2 legal (map narrow moves) 0 code.base parts.0 x y ready.clear front (moves_chain code moves x first.each ready.clear) in
+    let leaps = λ (a : ℕ). return_leaps code a y (still_ready moves x ready) in
+    let jumps : JumpGroup code 2 parts.0 y exit y = (narrow return_half, parts.2.0, leaps parts.0, (narrow return_half, parts.2.1.0, leaps (parts.0 + 2), tt)) in
+    let l = legal (0 + n) in
+    let last = jump_group code skips 2 (0 + n) parts.0 exit y y (still_ready moves x ready).clear jumps l.0 l.1 l.2 in
+    let begun : Comes code skips n 0 (at code.base x) (at parts.0 y) = record { steps = n; within = omega arith; runs = body } in
+    let count : n + 2 ≡ 2 * length halves = omega (arith, length-map moves narrow, length_of halves first) in
+    returns_of code skips (2 * length halves) (at code.base x) (at exit y) refl (comes_on code skips n 2 (2 * length halves) 0 (at code.base x) (at parts.0 y) (at exit y) count begun last)

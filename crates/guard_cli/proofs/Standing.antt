@@ -54,8 +54,7 @@ stands_behind code (h ∷ hs) pre p eb ep all =
     let whole : length code.bytes ≡ length pre + suc (suc (length (code_bytes hs))) = ap length eb ∙ length-append pre (half h ++ code_bytes hs) in
     let ep' : p + 2 ≡ code.base + length (pre ++ half h) = omega (arith, length-append pre (half h)) in
     let rest = stands_behind code hs (pre ++ half h) (p + 2) eb' ep' (All-tail IsNarrow h hs all) in
-    let e : p + 2 + 2 * length hs ≡ p + 2 * length (h ∷ hs) = omega arith in
-    (
+    let e : p + 2 + 2 * length hs ≡ p + 2 * length (h ∷ hs) = omega arith in (
       fetch_narrow code p h (omega arith) (omega arith) (half_behind code pre (code_bytes hs) p h eb ep one.low) one.alone,
       subst (λ q. Stands code (map narrow hs) (p + 2) q) e rest,
     )
