@@ -1,5 +1,5 @@
 -- Runs of code of the first form, plain and doubled.
-use Rattle.std.proofs.Common.{◌≡◌, ◌≢◌, ℕ, zero, suc, ◌+◌, ◌-◌, ◌*◌, ◌/◌, ◌%◌, ◌^◌, ◌<◌, ◌≤◌, ◌==◌, ⊎_elim, Bool, true, false, List, [], ◌∷◌, ◌++◌, length, map, Option, Some, None, Result, Ok, Err, refl, sym, ap, ◌∙◌, subst, arith, get_or-set_same, get_or-set_other, length-set}
+use Rattle.std.proofs.Common.{◌≡◌, ◌≢◌, ℕ, ◌+◌, ◌-◌, ◌*◌, ◌/◌, ◌%◌, ◌<◌, ◌≤◌, ◌==◌, ⊎_elim, Bool, true, false, List, [], ◌∷◌, ◌++◌, length, map, Some, Ok, refl, sym, ap, ◌∙◌, subst, arith, get_or-set_same, get_or-set_other, length-set}
 use Rattle.std.specs.Prelude.{slice_set, All}
 use Rattle.std.proofs.lemmas.Bool.{ne_eqb, cases_eq}
 use Rattle.std.proofs.lemmas.List.{set-set, map-append, length-map, length-append}
@@ -7,14 +7,14 @@ use Rattle.std.proofs.lemmas.List.Elements.{All-nil, All-cons, All-head, All-tai
 use Rattle.std.proofs.lemmas.Grind.{flat_map-append}
 use Rattle.elf_read.specs.FirstForm.{IsMove, IsFirstCode, return_half, code_bytes}
 use Rattle.guard_cli.specs.Marks.{Word, Plain, Return, plain}
-use Rattle.guard_cli.specs.Formulas.{expand_imm, Shifted}
-use Rattle.guard_cli.specs.Instructions.{Instr, Move, Mov, Imm, Jump, Outside, Answer, decode, is_wide}
-use Rattle.guard_cli.specs.States.{CodeBytes, Core, State, Change, Outcome, Site, Exit, Falls, Jumps, Memory, at, read, change, applied, unchanged, jump_to}
-use Rattle.guard_cli.specs.Steps.{Fetched, fetch, place_in_block, takes_effect, goes_on, executed, step_of}
+use Rattle.guard_cli.specs.Formulas.{expand_imm}
+use Rattle.guard_cli.specs.Instructions.{Instr, Move, Mov, Imm, Jump, Outside, decode}
+use Rattle.guard_cli.specs.States.{CodeBytes, Core, State, Change, Site, Jumps, at, read, change, applied, unchanged, jump_to}
+use Rattle.guard_cli.specs.Steps.{Fetched, place_in_block, takes_effect, goes_on, step_of}
 use Rattle.guard_cli.specs.Schedules.{run, exit, Returns}
 use Rattle.guard_cli.specs.Output.{doubled}
-use Rattle.guard_cli.proofs.Groups.{Legal, Makes, Leaps, JumpGroup, Comes, it_stays, steps_to, first_step, run_on, comes_on, returns_of, jump_group}
-use Rattle.guard_cli.proofs.Sequences.{Stands, Chain, Settles, copied, stands_split, sequence, ends_once}
+use Rattle.guard_cli.proofs.Groups.{Legal, Leaps, JumpGroup, Comes, it_stays, steps_to, first_step, run_on, comes_on, returns_of, jump_group}
+use Rattle.guard_cli.proofs.Sequences.{Stands, Chain, Settles, stands_split, sequence, ends_once}
 use Rattle.guard_cli.proofs.Standing.{narrow, IsNarrow, stands_all, fetch_past, doubled_copies, single_copies, length-code_bytes}
 
 -- `movs d, #i`

@@ -1,6 +1,6 @@
 -- Sequences of groups, and the one end of a run.
-use Rattle.std.proofs.Common.{◌≡◌, ℕ, zero, suc, ◌+◌, ◌*◌, ◌<◌, ◌≤◌, Bool, true, false, List, [], ◌∷◌, ◌++◌, length, Option, Some, None, Result, Ok, Err, refl, sym, ap, ◌∙◌, subst, arith}
-use Rattle.guard_cli.specs.States.{CodeBytes, Core, State, FaultKind, BadFetch, at}
+use Rattle.std.proofs.Common.{◌≡◌, ℕ, zero, suc, ◌+◌, ◌*◌, Bool, true, false, List, [], ◌∷◌, ◌++◌, length, Some, None, Ok, Err, refl, ap, ◌∙◌, subst, arith}
+use Rattle.guard_cli.specs.States.{CodeBytes, Core, State, BadFetch, at}
 use Rattle.guard_cli.specs.Steps.{Fetched, fetch, move}
 use Rattle.guard_cli.specs.Schedules.{go_on, run, exit}
 use Rattle.guard_cli.proofs.Groups.{Legal, Makes, Group, go_on_ok, run_on, group}

@@ -1,6 +1,6 @@
 -- Where instructions of one halfword stand in the code.
-use Rattle.std.proofs.Common.{◌≡◌, ℕ, zero, suc, ◌+◌, ◌-◌, ◌*◌, ◌/◌, ◌^◌, ◌<◌, ◌≤◌, Bool, true, false, List, [], ◌∷◌, ◌++◌, length, map, drop, Option, Some, None, refl, sym, ap, ◌∙◌, subst, arith, append_assoc}
-use Rattle.std.specs.Prelude.{nat_le, All}
+use Rattle.std.proofs.Common.{◌≡◌, ℕ, suc, ◌+◌, ◌-◌, ◌*◌, ◌<◌, ◌≤◌, false, List, [], ◌∷◌, ◌++◌, length, map, drop, Some, None, refl, sym, ap, ◌∙◌, subst, arith, append_assoc}
+use Rattle.std.specs.Prelude.{All}
 use Rattle.std.proofs.Math.Seq.{drop-append_seam}
 use Rattle.std.proofs.lemmas.Bool.{le-leb, lt-leb}
 use Rattle.std.proofs.lemmas.List.{length-append}
@@ -12,7 +12,6 @@ use Rattle.elf_read.specs.FirstForm.{code_bytes}
 use Rattle.guard_cli.specs.Instructions.{is_wide}
 use Rattle.guard_cli.specs.States.{CodeBytes}
 use Rattle.guard_cli.specs.Steps.{Fetched, fetch, half_of}
-use Rattle.guard_cli.specs.Schedules.{exit}
 use Rattle.guard_cli.specs.Output.{doubled}
 use Rattle.guard_cli.proofs.Sequences.{Stands, copied}
 
