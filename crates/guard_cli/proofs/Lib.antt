@@ -1,1 +1,5 @@
 mod Examples
+pub mod Groups
+pub mod Sequences
+pub mod Standing
+pub mod FirstRuns
