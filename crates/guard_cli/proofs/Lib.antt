@@ -3,3 +3,4 @@ pub mod Groups
 pub mod Sequences
 pub mod Standing
 pub mod FirstRuns
+pub mod FirstImages
