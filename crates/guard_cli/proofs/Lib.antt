@@ -4,3 +4,4 @@ pub mod Sequences
 pub mod Standing
 pub mod FirstRuns
 pub mod FirstImages
+pub mod FirstLinks
