@@ -5,3 +5,5 @@ pub mod Standing
 pub mod FirstRuns
 pub mod FirstImages
 pub mod FirstLinks
+pub mod FirstStarts
+pub mod FirstMaps
