@@ -1,28 +1,15 @@
 -- The image of an object of the first form, plain or hardened: one code section at the base, no data, one entry.
-use Rattle.std.proofs.Common.{◌≡◌, ◌≢◌, ℕ, zero, suc, ◌+◌, ◌-◌, ◌*◌, ◌%◌, ◌^◌, ◌<◌, ◌≤◌, Bool, true, false, List, [], ◌∷◌, ◌++◌, length, replicate, Option, Some, None, if◌then◌else◌, codes, Contains, refl, sym, ap, ◌∙◌, subst, append-nil, length-append, arith}
-use Rattle.std.specs.List.{flat_map}
+use Rattle.std.proofs.Common.{◌≡◌, ℕ, ◌+◌, ◌-◌, ◌*◌, ◌%◌, ◌≤◌, true, false, List, [], ◌∷◌, ◌++◌, length, replicate, Some, None, if◌then◌else◌, codes, refl, sym, ap, ◌∙◌, subst, append-nil, arith}
 use Rattle.std.specs.Cmp.Lexicographic.{bytes_decides}
-use Rattle.elf_model.specs.declared.objects.Section.{Section}
-use Rattle.elf_model.specs.declared.objects.MapRow.{MapRow}
-use Rattle.elf_model.specs.Fields.{half, same_name}
-use Rattle.elf_model.specs.Objects.{ObjectParts}
+use Rattle.elf_model.specs.Fields.{same_name}
 use Rattle.elf_model.specs.Canonical.{round_up}
 use Rattle.elf_read.specs.FirstForm.{code_bytes, text_section, first_object}
-use Rattle.guard_cli.specs.Output.{doubled, rows_of, hardened_object}
-use Rattle.guard_cli.specs.Marks.{bare}
-use Rattle.guard_cli.specs.States.{Memory}
-use Rattle.guard_cli.specs.Images.{Placement, IsPlacement, Part, CanLink, Image, IsImage, code_parts, data_parts, code_bytes_of, data_bytes_of, entries_of, NamedEntry, entry_of, even}
-
-pub length_code_bytes : (halves : List ℕ) → length (code_bytes halves) ≡ 2 * length halves
-length_code_bytes [] = refl
-length_code_bytes (h ∷ hs) = omega (arith, length_code_bytes hs)
-
-pub length_doubled : (halves : List ℕ) → length (doubled halves) ≡ 2 * length halves
-length_doubled [] = refl
-length_doubled (h ∷ hs) = omega (arith, length_doubled hs)
+use Rattle.guard_cli.specs.Output.{doubled, hardened_object}
+use Rattle.guard_cli.specs.Images.{Placement, IsPlacement, Part, Image, IsImage, code_parts, data_parts, code_bytes_of, data_bytes_of, entries_of, NamedEntry, entry_of, even}
+use Rattle.guard_cli.proofs.Standing.{length-code_bytes, length-doubled}
 
 pub length_doubled_bytes : (halves : List ℕ) → length (code_bytes (doubled halves)) ≡ 4 * length halves
-length_doubled_bytes halves = omega (arith, length_code_bytes (doubled halves), length_doubled halves)
+length_doubled_bytes halves = omega (arith, length-code_bytes (doubled halves), length-doubled halves)
 
 -- the one section of code, where it starts
 abbrev pub text_part : ℕ → List ℕ → Part
@@ -110,9 +97,10 @@ hard_formed halves at image i =
 pub entry_is : (at : Placement) (bytes : List ℕ) (image : Image) → IsFormed at bytes image → (name : List ℕ) (entry : ℕ) → entry_of image.entries name ≡ Some entry → (entry ≡ at.base + 1) × (name ≡ codes "f")
 entry_is at bytes image i name entry e =
     let found : entry_of (entry_at at.base ∷ []) name ≡ Some entry = subst (λ es. entry_of es name ≡ Some entry) i.entries e in
-    elim (same_name (codes "f") name) as (λ b. same_name (codes "f") name ≡ b → (if b then Some (at.base + 1) else None) ≡ Some entry → (entry ≡ at.base + 1) × (name ≡ codes "f"))
-      [ true ↦ (λ t h. ((cc), sym ((bytes_decides (codes "f") name).0 t)))
-      | false ↦ (λ t h. absurd (cc)) ] refl found
+    elim (same_name (codes "f") name) as (λ b. same_name (codes "f") name ≡ b → (if b then Some (at.base + 1) else None) ≡ Some entry → (entry ≡ at.base + 1) × (name ≡ codes "f")) [
+      | true ↦ (λ t h. ((cc), sym ((bytes_decides (codes "f") name).0 t)))
+      | false ↦ (λ t h. absurd (cc))
+    ] refl found
 
 pub entry_stands : (at : Placement) (bytes : List ℕ) (image : Image) → IsFormed at bytes image → entry_of image.entries (codes "f") ≡ Some (at.base + 1)
 entry_stands at bytes image i = ap (λ es. entry_of es (codes "f")) i.entries

@@ -1,14 +1,15 @@
 -- Where an object of the first form has an image, what is made of it has one, unless its code is longer than the room.
-use Rattle.std.proofs.Common.{◌≡◌, ◌≢◌, ◌⊎◌, ◌↔◌, ℕ, zero, suc, ◌+◌, ◌-◌, ◌*◌, ◌%◌, ◌^◌, ◌<◌, ◌≤◌, Bool, true, false, List, [], ◌∷◌, ◌++◌, length, get_or, Option, Some, None, codes, All, Contains, slice_get, refl, sym, ap, ◌∙◌, subst, inl, inr, true≢false, length-append, lit<, arith}
+use Rattle.std.proofs.Common.{◌≡◌, ◌⊎◌, ℕ, zero, suc, ◌+◌, ◌%◌, ◌<◌, ◌≤◌, true, List, [], ◌∷◌, length, Some, codes, Contains, slice_get, refl, sym, ap, ◌∙◌, subst, inl, inr, true≢false, length-append, lit<, arith}
 use Rattle.std.specs.List.Sorted.{IsStrictlyIncreasing}
 use Rattle.std.proofs.lemmas.Bool.{cases_lt}
 use Rattle.std.proofs.lemmas.List.Elements.{All-cons, All-nil}
+use Rattle.std.proofs.lemmas.Option.{same_Some}
 use Rattle.elf_model.specs.declared.objects.Symbol.{Symbol}
-use Rattle.elf_model.specs.Objects.{ObjectParts, is_code}
+use Rattle.elf_model.specs.Objects.{ObjectParts}
 use Rattle.elf_read.specs.FirstForm.{IsFirstCode, code_bytes, first_object, code_symbol, function_symbol}
 use Rattle.guard_cli.specs.Output.{doubled, hardened_object}
-use Rattle.guard_cli.specs.Images.{Placement, IsPlacement, Part, Defined, IsDataStart, IsStop, CanLink, Image, IsImage, code_bytes_of, data_bytes_of, all_symbols, globals, is_function, even, address_of, is_mapping_of}
-use Rattle.guard_cli.proofs.FirstImages.{IsFormed, text_part, entry_at, first_formed, hard_parts, hard_code_bytes, hard_entries, even_of_entry, length_doubled_bytes}
+use Rattle.guard_cli.specs.Images.{Placement, IsPlacement, Part, Defined, IsDataStart, IsStop, CanLink, Image, IsImage, code_bytes_of, is_function, even, address_of, is_mapping_of}
+use Rattle.guard_cli.proofs.FirstImages.{text_part, entry_at, first_formed, hard_parts, hard_code_bytes, hard_entries, even_of_entry, length_doubled_bytes}
 
 pub only_one : {X : Type 0} (x y : X) → Contains (x ∷ []) y → y ≡ x
 only_one x y (zero, lt, e) = sym e
@@ -21,9 +22,6 @@ one_of_two x y z (suc (suc k), lt, e) = absurd (omega arith)
 
 pub is_not_empty : (halves : List ℕ) → IsFirstCode halves → 0 < length halves
 is_not_empty halves is = subst (λ hs. 0 < length hs) (sym is.ends) (omega (arith, length-append is.moves (0x4770 ∷ [])))
-
-some_is : {X : Type 0} (x y : X) → Some y ≡ Some x → x ≡ y
-some_is x y e = cc
 
 -- the stops of the hardened object: the function, and the end of its section
 abbrev pub stops_of : ℕ → List ℕ → List ℕ
@@ -47,21 +45,22 @@ hard_part base halves = text_part base (hard_bytes halves) ∷ []
 
 -- no symbol says that data begins
 is_no_data : (halves : List ℕ) (k : ℕ) (s : Symbol) → slice_get (hardened_object halves).symbols k ≡ Some s → is_mapping_of (codes "$d") s ≡ true → ⊥
-is_no_data halves zero s e m = true≢false (sym m ∙ ap (is_mapping_of (codes "$d")) (some_is s code_symbol e))
-is_no_data halves (suc zero) s e m = true≢false (sym m ∙ ap (is_mapping_of (codes "$d")) (some_is s (function_symbol (length (hard_bytes halves))) e))
+is_no_data halves zero s e m = true≢false (sym m ∙ ap (is_mapping_of (codes "$d")) (sym (same_Some _ _ e)))
+is_no_data halves (suc zero) s e m = true≢false (sym m ∙ ap (is_mapping_of (codes "$d")) (sym (same_Some _ _ e)))
 is_no_data halves (suc (suc k)) s e m = cc
 
 no_data_starts : (halves : List ℕ) (p : Part) (o : ObjectParts) (x : ℕ) → p ≡ text_part p.start (hard_bytes halves) → slice_get (hard_object halves) p.object ≡ Some o → IsDataStart o p.index x → ⊥
 no_data_starts halves p o x e found d =
     let found_first : slice_get (hard_object halves) 0 ≡ Some o = subst (λ (q : Part). slice_get (hard_object halves) q.object ≡ Some o) e found in
-    let is : o ≡ hardened_object halves = some_is o (hardened_object halves) found_first in
-    is_no_data halves d.index d.symbol (subst (λ (v : ObjectParts). slice_get v.symbols d.index ≡ Some d.symbol) is d.is_there) d.is_data
+    let is : hardened_object halves ≡ o = same_Some _ _ found_first in
+    is_no_data halves d.index d.symbol (subst (λ (v : ObjectParts). slice_get v.symbols d.index ≡ Some d.symbol) (sym is) d.is_there) d.is_data
 
 stop_is_listed : (halves : List ℕ) (base : ℕ) → base % 4096 ≡ 0 → (a : ℕ) → IsStop (hard_object halves) (hard_part base halves) a → Contains (stops_of base (hard_bytes halves)) a
 stop_is_listed halves base h a (IsStop.at_function d there is) =
-    elim (one_of_two the_code (the_function (hard_bytes halves)) d there)
-      [ inl e ↦ absurd (true≢false (sym is ∙ ap (is_function (hard_part base halves)) e))
-      | inr e ↦ (0, lit< tt, sym (ap (λ (v : Defined). even (address_of (hard_part base halves) v)) e ∙ even_of_entry base h)) ]
+    elim (one_of_two the_code (the_function (hard_bytes halves)) d there) [
+      | inl e ↦ absurd (true≢false (sym is ∙ ap (is_function (hard_part base halves)) e))
+      | inr e ↦ (0, lit< tt, sym (ap (λ (v : Defined). even (address_of (hard_part base halves) v)) e ∙ even_of_entry base h))
+    ]
 stop_is_listed halves base h a (IsStop.at_data p o x there is found starts) =
     let same : p ≡ text_part base (hard_bytes halves) = only_one (text_part base (hard_bytes halves)) p there in
     let same_start : p.start ≡ base = ap (λ (q : Part). q.start) same in
@@ -119,6 +118,7 @@ pub first_links : (halves : List ℕ) → IsFirstCode halves → (at : Placement
 first_links halves is at plain i =
     let f = first_formed halves at plain i in
     let long : 0 < length (hard_bytes halves) = omega (arith, length_doubled_bytes halves, is_not_empty halves is) in
-    elim (cases_lt at.room (length (hard_bytes halves)))
-      [ inl over ↦ inr (subst (λ (b : List ℕ). at.room < length b) (sym (hard_code_bytes halves at f.placement)) over)
-      | inr fits ↦ inl (hard_image halves at, hard_is_image halves at f.placement f.end_fits fits long) ]
+    elim (cases_lt at.room (length (hard_bytes halves))) [
+      | inl over ↦ inr (subst (λ (b : List ℕ). at.room < length b) (sym (hard_code_bytes halves at f.placement)) over)
+      | inr fits ↦ inl (hard_image halves at, hard_is_image halves at f.placement f.end_fits fits long)
+    ]

@@ -1,17 +1,19 @@
 -- The map of an object of the first form: its rows rise, and its first one takes the function's address to itself.
-use Rattle.std.proofs.Common.{◌≡◌, ◌⊎◌, ℕ, zero, suc, ◌+◌, ◌-◌, ◌*◌, ◌%◌, ◌^◌, ◌<◌, ◌≤◌, Bool, true, false, List, [], ◌∷◌, length, Option, Some, None, All, Contains, slice_get, refl, sym, ap, ◌∙◌, subst, inl, inr, lit<, arith}
+use Rattle.std.proofs.Common.{◌≡◌, ℕ, zero, suc, ◌+◌, ◌*◌, ◌<◌, ◌≤◌, List, [], ◌∷◌, length, Some, All, Contains, slice_get, refl, sym, subst, inl, inr, lit<, arith}
 use Rattle.std.proofs.lemmas.List.Elements.{All-cons, All-nil}
+use Rattle.std.proofs.lemmas.Option.{same_Some}
 use Rattle.elf_model.specs.declared.objects.Section.{Section}
 use Rattle.elf_model.specs.declared.objects.MapRow.{MapRow}
 use Rattle.elf_model.specs.declared.objects.RowKind.TheVariants as row
 use Rattle.elf_model.specs.Objects.{ObjectParts}
-use Rattle.elf_model.specs.Maps.{HasMap, map_section}
+use Rattle.elf_model.specs.Maps.{HasMap}
 use Rattle.elf_read.specs.FirstForm.{IsFirstCode, code_bytes, text_section, first_object}
 use Rattle.guard_cli.specs.Output.{doubled, rows_from, rows_of, hardened_object}
-use Rattle.guard_cli.specs.Images.{Placement, IsPlacement, Part, Image, even}
-use Rattle.guard_cli.specs.AddressMaps.{Holds, Leads, TakesEntry}
+use Rattle.guard_cli.specs.Images.{Placement, Image, even}
+use Rattle.guard_cli.specs.AddressMaps.{TakesEntry}
 use Rattle.guard_cli.specs.Hardened.{IsBefore, Rise, AreMaps, AreShort, code_sections}
-use Rattle.guard_cli.proofs.FirstImages.{IsFormed, text_part, even_of_entry, length_code_bytes, length_doubled_bytes}
+use Rattle.guard_cli.proofs.Standing.{length-code_bytes}
+use Rattle.guard_cli.proofs.FirstImages.{IsFormed, text_part, even_of_entry, length_doubled_bytes}
 use Rattle.guard_cli.proofs.FirstLinks.{is_not_empty}
 
 abbrev row_at : ℕ → MapRow
@@ -32,13 +34,10 @@ rows_rise i (suc n) = (all_behind i (i + 1) n (omega arith), rows_rise (i + 1) n
 abbrev pub maps_of : List ℕ → List (List MapRow)
 maps_of halves = rows_of halves ∷ []
 
-some_is : {X : Type 0} {x y : X} → Some x ≡ Some y → x ≡ y
-some_is e = cc
-
 has_map : (halves : List ℕ) (i : ℕ) (o : ObjectParts) (rows : List MapRow) → slice_get (hardened_object halves ∷ []) i ≡ Some o → slice_get (maps_of halves) i ≡ Some rows → HasMap o rows
 has_map halves zero o rows e f =
-    let same : hardened_object halves ≡ o = some_is e in
-    let same_rows : rows_of halves ≡ rows = some_is f in
+    let same : hardened_object halves ≡ o = same_Some _ _ e in
+    let same_rows : rows_of halves ≡ rows = same_Some _ _ f in
     subst (λ (v : ObjectParts). HasMap v rows) same (subst (λ rs. HasMap (hardened_object halves) rs) same_rows (1, lit< tt, refl))
 has_map halves (suc i) o rows e f = cc
 
@@ -55,14 +54,14 @@ IsShort o k t = (s : Section) × (slice_get (code_sections o) k ≡ Some s) × (
 
 short_at : (halves : List ℕ) (k : ℕ) (t : Section) → slice_get (code_sections (hardened_object halves)) k ≡ Some t → IsShort (first_object halves) k t
 short_at halves zero t g =
-    let same : text_section (code_bytes (doubled halves)) ≡ t = some_is g in
-    (text_section (code_bytes halves), refl, subst (λ (v : Section). v.size ≤ 32 * length (code_bytes halves)) same (omega (arith, length_code_bytes halves, length_doubled_bytes halves)))
+    let same : text_section (code_bytes (doubled halves)) ≡ t = same_Some _ _ g in
+    (text_section (code_bytes halves), refl, subst (λ (v : Section). v.size ≤ 32 * length (code_bytes halves)) same (omega (arith, length-code_bytes halves, length_doubled_bytes halves)))
 short_at halves (suc k) t g = cc
 
 pub first_short : (halves : List ℕ) → AreShort (first_object halves ∷ []) (hardened_object halves ∷ [])
 first_short halves zero k o h t e f g =
-    let same : first_object halves ≡ o = some_is e in
-    let same_out : hardened_object halves ≡ h = some_is f in
+    let same : first_object halves ≡ o = same_Some _ _ e in
+    let same_out : hardened_object halves ≡ h = same_Some _ _ f in
     subst (λ (v : ObjectParts). IsShort v k t) same (short_at halves k t (subst (λ (v : ObjectParts). slice_get (code_sections v) k ≡ Some t) (sym same_out) g))
 first_short halves (suc i) k o h t e f g = cc
 
@@ -81,7 +80,7 @@ takes_entry halves is at plain hard p q =
         there = subst (λ ps. Contains ps (text_part at.base (code_bytes halves))) (sym p.parts) (0, lit< tt, refl);
         code = refl;
         from = omega (arith, same_place);
-        below = omega (arith, same_place, length_code_bytes halves, is_not_empty halves is);
+        below = omega (arith, same_place, length-code_bytes halves, is_not_empty halves is);
       };
       rows = rows_of halves;
       map = refl;

@@ -1,11 +1,11 @@
 -- A call starts in one state of both images, if their memories are one, and what is plain in it is the same up to code addresses.
-use Rattle.std.proofs.Common.{◌≡◌, ℕ, zero, suc, ◌+◌, ◌-◌, ◌<◌, ◌≤◌, List, [], ◌∷◌, ◌++◌, length, get_or, replicate, Option, Some, None, All, refl, sym, ap, ◌∙◌, subst, lit<, arith}
+use Rattle.std.proofs.Common.{◌≡◌, ℕ, zero, suc, ◌+◌, ◌-◌, ◌<◌, List, [], ◌∷◌, ◌++◌, length, get_or, replicate, Option, None, All, refl, sym, ap, ◌∙◌, subst, arith}
 use Rattle.std.proofs.lemmas.List.{get_or_append_left, get_or-replicate}
 use Rattle.std.proofs.lemmas.List.Elements.{All-nil, All-append, All-replicate}
 use Rattle.elf_model.specs.declared.objects.MapRow.{MapRow}
 use Rattle.elf_model.specs.Canonical.{round_up}
 use Rattle.guard_cli.specs.Marks.{Mark, Plain, Return, Word, Cell, Piece, plain, bare}
-use Rattle.guard_cli.specs.States.{Memory, Core, State, read}
+use Rattle.guard_cli.specs.States.{Memory, State, read}
 use Rattle.guard_cli.specs.Images.{Image, argument, start_regs, run_cells, start}
 use Rattle.guard_cli.specs.AddressMaps.{SameWord, SameBits, SameCell, SameByte, SameState}
 
@@ -17,7 +17,7 @@ argument_is_plain [] k = refl
 argument_is_plain (a ∷ rest) zero = refl
 argument_is_plain (a ∷ rest) (suc k) = argument_is_plain rest k
 
--- r4 to r12, sp and lr
+-- sp and lr
 abbrev rest_of : ℕ → List Word
 rest_of sp = plain sp ∷ record { bits = 0x7FFFFFFF; mark = Return 0x7FFFFFFF } ∷ []
 
@@ -43,8 +43,8 @@ pub cells_are_bare : (image : Image) → image.memory.cells ≡ [] → (stack : 
 cells_are_bare image e stack =
     let gap = round_up (length image.memory.cells) 8 - length image.memory.cells in
     All-append IsBare (image.memory.cells ++ replicate gap (bare 0)) (replicate stack (bare 0))
-      (All-append IsBare image.memory.cells (replicate gap (bare 0)) (subst (All IsBare) (sym e) (All-nil IsBare)) (All-replicate IsBare gap (bare 0) refl))
-      (All-replicate IsBare stack (bare 0) refl)
+    (All-append IsBare image.memory.cells (replicate gap (bare 0)) (subst (All IsBare) (sym e) (All-nil IsBare)) (All-replicate IsBare gap (bare 0) refl))
+    (All-replicate IsBare stack (bare 0) refl)
 
 -- A state is the same as itself where it holds no marks.
 plain_is_same : (one two : Image) (maps : List (List MapRow)) (w : Word) → w.mark ≡ Plain → SameWord one two maps w w

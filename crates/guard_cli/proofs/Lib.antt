@@ -7,3 +7,4 @@ pub mod FirstImages
 pub mod FirstLinks
 pub mod FirstStarts
 pub mod FirstMaps
+pub mod FirstHardened
