@@ -3,3 +3,8 @@ pub mod Groups
 pub mod Sequences
 pub mod Standing
 pub mod FirstRuns
+pub mod FirstImages
+pub mod FirstLinks
+pub mod FirstStarts
+pub mod FirstMaps
+pub mod FirstHardened
