@@ -1,4 +1,5 @@
 mod Examples
+mod FirstExamples
 pub mod Groups
 pub mod Sequences
 pub mod Standing
