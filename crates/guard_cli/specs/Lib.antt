@@ -11,3 +11,4 @@ pub mod Schedules
 pub mod Images
 pub mod AddressMaps
 pub mod Hardened
+pub mod Promise
