@@ -9,3 +9,4 @@ pub mod FirstLinks
 pub mod FirstStarts
 pub mod FirstMaps
 pub mod FirstHardened
+pub mod FirstControl
