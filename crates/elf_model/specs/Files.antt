@@ -8,7 +8,7 @@ use Rattle.elf_model.specs.declared.objects.RelocKind.{RelocKind}
 use Rattle.elf_model.specs.declared.objects.RelocKind.TheVariants.{Abs32, Target1, ThmCall, ThmJump24, MovwAbs, MovtAbs, ThmJump19, ThmJump11, ThmJump8, Other}
 use Rattle.elf_model.specs.declared.objects.Home.{Home}
 use Rattle.elf_model.specs.declared.objects.Home.TheVariants as home
-use Rattle.elf_model.specs.Constants.{nobits, symtab, strtab, rel, arm_exidx, undefined_index, absolute_index}
+use Rattle.elf_model.specs.Constants.{nobits, symtab, strtab, rel, rela, group, symtab_shndx, arm_exidx, undefined_index, absolute_index}
 use Rattle.elf_model.specs.Fields.{byte_at, half_at, word_at, bytes_at}
 use Rattle.elf_model.specs.Objects.{ObjectParts, is_object, is_dropped_name, is_kept_kind, is_alloc}
 
@@ -82,10 +82,19 @@ section_name b h = text_at b (half_at b 50) (header b h).name
 abbrev pub is_table : ℕ → Bool
 is_table kind = (kind == symtab) || (kind == strtab) || (kind == rel)
 
+-- the kinds of sections that are refused wherever they stand
+abbrev pub is_refused_kind : ℕ → Bool
+is_refused_kind kind = (kind == group) || (kind == rela) || (kind == symtab_shndx)
+
+-- a section that is left out, with its symbols and relocations
+abbrev pub is_dropped : List ℕ → ℕ → Bool
+is_dropped b h =
+    not (is_refused_kind (header b h).kind)
+    && (is_dropped_name (section_name b h) || ((header b h).kind == arm_exidx)
+    || not (is_alloc (header b h).flags || is_kept_kind (header b h).kind (header b h).flags))
+
 abbrev pub is_kept : List ℕ → ℕ → Bool
-is_kept b h =
-    not (is_table (header b h).kind) && not (is_dropped_name (section_name b h)) && not ((header b h).kind == arm_exidx)
-    && (is_alloc (header b h).flags || is_kept_kind (header b h).kind (header b h).flags)
+is_kept b h = not (is_table (header b h).kind) && not (is_dropped b h)
 
 abbrev pub kept_headers : List ℕ → List ℕ
 kept_headers b = filter (is_kept b) (headers b)
