@@ -1,6 +1,6 @@
 -- An object, and what holds of every object.
 use Rattle.std.specs.Prelude.{ℕ, ◌+◌, ◌*◌, ◌/◌, ◌%◌, ◌^◌, ◌-◌, ◌==◌, nat_lt, nat_le, ◌&&◌, ◌||◌, not, Bool, true, false, List, [], ◌∷◌, length, Option, Some, None, if◌then◌else◌, slice_get, codes}
-use Rattle.std.specs.List.{list_all, list_any, starts_with}
+use Rattle.std.specs.List.{list_all, list_any, starts_with, sum_by}
 use Rattle.std.specs.Prelude.{nat_eq}
 use Rattle.elf_model.specs.declared.objects.Section.{Section}
 use Rattle.elf_model.specs.declared.objects.Symbol.{Symbol}
@@ -10,6 +10,7 @@ use Rattle.elf_model.specs.declared.objects.RelocKind.TheVariants.{Abs32, Target
 use Rattle.elf_model.specs.declared.objects.Home.{Home}
 use Rattle.elf_model.specs.declared.objects.Home.TheVariants.{Undefined, Absolute}
 use Rattle.elf_model.specs.declared.objects.Home.TheVariants as home
+use Rattle.elf_model.specs.declared.refusals.Limit.{Limit}
 use Rattle.elf_model.specs.Constants.{progbits, note, nobits, init_array, fini_array, arm_attributes, local, func}
 
 -- what an object is made of
@@ -51,17 +52,24 @@ is_kept_kind kind flags =
     if is_alloc flags then list_any (λ k. kind == k) (progbits ∷ nobits ∷ init_array ∷ fini_array ∷ [])
     else list_any (λ k. kind == k) (progbits ∷ note ∷ arm_attributes ∷ [])
 
+-- a section has as many bytes as its size says, or none in the file
+abbrev pub has_bytes : Section → Bool
+has_bytes s = length s.bytes == (if s.kind == nobits then 0 else s.size)
+
 -- a section of a kind that is handled: neither writable code nor code without bytes
 abbrev pub is_section : Section → Bool
 is_section s =
     is_name s.name && not (is_dropped_name s.name) && is_alignment s.align && is_kept_kind s.kind s.flags
     && not (is_writable s.flags && is_exec s.flags) && not (is_exec s.flags && (s.kind == nobits))
-    && (length s.bytes == (if s.kind == nobits then 0 else s.size))
+    && has_bytes s
 
 -- a symbol's value is within the section that it is defined in, bit 0 of a function's value not counted
+abbrev pub is_inside : Symbol → Section → Bool
+is_inside s h = nat_le (if s.kind == func then s.value - s.value % 2 else s.value) h.size
+
 abbrev pub is_at_home : List Section → Symbol → Option Section → Bool
 is_at_home sections s None = false
-is_at_home sections s (Some h) = nat_le (if s.kind == func then s.value - s.value % 2 else s.value) h.size
+is_at_home sections s (Some h) = is_inside s h
 
 abbrev pub has_home : List Section → Symbol → Home → Bool
 has_home sections s Undefined = true
@@ -110,6 +118,11 @@ is_reloc sections symbols r = is_placed r (slice_get sections r.section) && is_k
 abbrev pub is_below : Reloc → Reloc → Bool
 is_below a b = nat_lt a.section b.section || ((a.section == b.section) && nat_lt a.offset b.offset)
 
+-- a relocation may follow the last one before it, if there was one
+abbrev pub may_follow : Option Reloc → Reloc → Bool
+may_follow None r = true
+may_follow (Some last) r = is_below last r
+
 abbrev pub rise : List Reloc → Bool
 rise [] = true
 rise (r ∷ rest) = list_all (is_below r) rest && rise rest
@@ -123,3 +136,19 @@ abbrev pub is_object : ObjectParts → Bool
 is_object o =
     list_all is_section o.sections && list_all (is_symbol o.sections) o.symbols && locals_first o.symbols
     && list_all (is_reloc o.sections o.symbols) o.relocs && rise o.relocs && is_version_5 o.flags
+
+-- the object that is made of these parts
+abbrev pub made_of : List Section → List Symbol → List Reloc → ℕ → Option ObjectParts
+made_of sections symbols relocs flags =
+    let parts : ObjectParts = record { sections = sections; symbols = symbols; relocs = relocs; flags = flags } in
+    if is_object parts then Some parts else None
+
+-- the bytes of all code sections
+abbrev pub code_size : List Section → ℕ
+code_size sections = sum_by (λ (s : Section). if is_code s then s.size else 0) sections
+
+-- no more of anything than the limit says
+abbrev pub is_within : ObjectParts → Limit → Bool
+is_within o l =
+    nat_le (length o.sections) l.sections && nat_le (length o.symbols) l.symbols && nat_le (length o.relocs) l.relocs
+    && nat_le (code_size o.sections) l.code

@@ -2,11 +2,13 @@
 #![tactic(auto)]
 
 mod bytes;
+mod checks;
 mod names;
 mod objects;
 mod refusals;
 
 pub use bytes::Bytes;
+pub use checks::{is_code, object, within};
 pub use names::Name;
 pub use objects::{Home, MapRow, Object, Reloc, RelocKind, RowKind, Section, Symbol};
 pub use refusals::{Deny, Limit, Refusal, Spot};

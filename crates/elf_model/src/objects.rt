@@ -102,6 +102,27 @@ impl Model for Object {
 }
 
 impl Object {
+    ghost use Rattle.std.specs.Prelude.{IsTrue};
+    ghost use Rattle.elf_model.specs.Objects.{is_object};
+
+    /// The object of these parts.
+    pub fn of_parts(
+        sections: Vec<Section>,
+        symbols: Vec<Symbol>,
+        relocs: Vec<Reloc>,
+        flags: u32,
+    ) -> Object
+        requires { IsTrue (is_object (record { sections = sections.items; symbols = symbols.items; relocs = relocs.items; flags = flags })) }
+        ensures { result ≡ record { sections = sections.items; symbols = symbols.items; relocs = relocs.items; flags = flags } }
+    {
+        Object {
+            sections,
+            symbols,
+            relocs,
+            flags,
+        }
+    }
+
     /// Its sections.
     pub fn sections(&self) -> &[Section]
         ensures { result.now ≡ self.now.sections }
