@@ -2,3 +2,5 @@ pub mod Words
 pub mod Output
 pub mod Texts
 pub mod Runs
+pub mod Commands
+pub mod Statuses

@@ -2,6 +2,8 @@
 #![tactic(auto)]
 
 mod endings;
+mod texts;
+mod words;
 
 pub use endings::Ending;
 
