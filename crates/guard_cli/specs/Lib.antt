@@ -4,3 +4,4 @@ pub mod Texts
 pub mod Runs
 pub mod Commands
 pub mod Statuses
+pub mod HardenedFile

@@ -2,6 +2,7 @@
 #![tactic(auto)]
 
 mod endings;
+mod form;
 mod texts;
 mod words;
 

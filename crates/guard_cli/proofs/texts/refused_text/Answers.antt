@@ -5,4 +5,4 @@ use Rattle.guard_cli.proofs.texts.refused_text.Goals as goal
 
 pub returns : goal.returns
 returns c =
-    IfOk-weaker c.format.result _ _ (λ x h. simp append_assoc (simp (append_assoc, c.number-number.ensures, c.name-title.ensures, c.in_ok-more.ensures) at h)) c.format.ensures.ok
+    IfOk-weaker c.format.result _ _ (λ x h. simp append_assoc (simp (c.number-number.ensures, c.name-title.ensures, c.in_ok-more.ensures) at h)) c.format.ensures.ok
