@@ -5,3 +5,4 @@ pub mod Runs
 pub mod Commands
 pub mod Statuses
 pub mod HardenedFile
+pub mod Steps

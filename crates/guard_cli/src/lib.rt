@@ -1,6 +1,8 @@
 //! The commands of `skipguard`, from their words to what they save and print.
 #![tactic(auto)]
 
+mod commands;
+mod decisions;
 mod endings;
 mod form;
 mod texts;

@@ -2,6 +2,7 @@
 
 ghost use Rattle.std.specs.Prelude.{◌≡◌, ◌∷◌, [], IfOk, string_bytes};
 ghost use Rattle.guard_cli.specs.Texts.{usage_line, no_memory_line, read_fault_line, write_fault_line, refused_line, details, yes_or_no, tally_line, report};
+ghost use Rattle.guard_cli.specs.Steps.{tally_with};
 
 use elf_model::{Refusal, Spot};
 use std::alloc::{AllocError, Global};
@@ -84,12 +85,22 @@ pub(crate) struct Counts {
     pub factor: u32,
 }
 
+/// The report on one output: its line, and the greatest factor.
+pub(crate) fn report_text(
+    alloc: Global,
+    output: &str,
+    counts: &Counts,
+) -> Result<String, AllocError>
+    ensures { IfOk result (λ text. string_bytes text ≡ report (tally_with output.now counts.now ∷ [])) }
+{
+    let line = tally_text(alloc, output, counts)?;
+    let factor = counts.factor.max(1);
+    format!(in alloc; "{line}factor {factor}\n")
+}
+
 /// The line of one output.
 fn tally_text(alloc: Global, output: &str, counts: &Counts) -> Result<String, AllocError>
-    ensures { let n = counts.now in
-        IfOk result (λ text. string_bytes text ≡ tally_line (record {
-            output = output.now; functions = n.functions; before = n.before; after = n.after; old_bytes = n.old_bytes;
-            new_bytes = n.new_bytes; dropped = n.dropped; factor = n.factor })) }
+    ensures { IfOk result (λ text. string_bytes text ≡ tally_line (tally_with output.now counts.now)) }
 {
     let functions = counts.functions;
     let before = counts.before;
