@@ -152,3 +152,6 @@ texts_of f xs h =
 -- a word that was read
 pub word_read : {X : Type 0} (f : X → List ℕ) (xs : List X) (i : ℕ) (x : X) → i < length xs → x ≡ get_or xs i x → get_or (map f xs) i (f x) ≡ f x
 word_read f xs i x h e = get_or-map f xs i x (f x) h ∙ ap f (sym e)
+
+pub only_pair : {p q : Pair} → p ∷ [] ≡ q ∷ [] → p ≡ q
+only_pair e = cc
