@@ -1,2 +1,14 @@
 pub mod Rising
 mod Examples
+mod FieldsRead
+mod Laid
+mod FileRead
+mod Strings
+mod Lists
+mod Sections
+mod Written
+mod Headers
+mod Kept
+mod Symbols
+mod Tables
+pub mod Stands

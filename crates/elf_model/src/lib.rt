@@ -12,3 +12,6 @@ pub use checks::{is_code, object, within};
 pub use names::Name;
 pub use objects::{Home, MapRow, Object, Reloc, RelocKind, RowKind, Section, Symbol};
 pub use refusals::{Deny, Limit, Refusal, Spot};
+
+#[cfg(test)]
+mod tests;

@@ -106,7 +106,7 @@ impl Object {
     ghost use Rattle.elf_model.specs.Objects.{is_object};
 
     /// The object of these parts.
-    pub fn of_parts(
+    pub(crate) fn of_parts(
         sections: Vec<Section>,
         symbols: Vec<Symbol>,
         relocs: Vec<Reloc>,

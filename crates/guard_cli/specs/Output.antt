@@ -21,8 +21,8 @@ rows_of halves = rows_from 0 (length halves)
 
 abbrev pub hardened_object : List ℕ → ObjectParts
 hardened_object halves = record {
-    sections = text_section (code_bytes (doubled halves)) ∷ map_section (rows_of halves) ∷ [];
-    symbols = code_symbol ∷ function_symbol (length (code_bytes (doubled halves))) ∷ [];
-    relocs = [];
-    flags = 0x05000000
-  }
+  sections = text_section (code_bytes (doubled halves)) ∷ map_section (rows_of halves) ∷ [];
+  symbols = code_symbol ∷ function_symbol (length (code_bytes (doubled halves))) ∷ [];
+  relocs = [];
+  flags = 0x05000000;
+}

@@ -82,9 +82,15 @@ pub record IsRead (p : Pair) (files : Files) (halves : List ℕ) : Type 0 where
 -- what is said of it: every halfword is an instruction
 abbrev pub tally_of : Pair → List ℕ → Tally
 tally_of p halves = record {
-    output = p.output; functions = 1; before = length halves; after = 2 * length halves; old_bytes = 2 * length halves;
-    new_bytes = 4 * length halves; dropped = 0; factor = 2
-  }
+  output = p.output;
+  functions = 1;
+  before = length halves;
+  after = 2 * length halves;
+  old_bytes = 2 * length halves;
+  new_bytes = 4 * length halves;
+  dropped = 0;
+  factor = 2;
+}
 
 abbrev pub output_of : List ℕ → List ℕ
 output_of halves = canonical (hardened_object halves)

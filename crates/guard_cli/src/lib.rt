@@ -8,12 +8,12 @@ mod form;
 mod texts;
 mod words;
 
-pub use endings::Ending;
-
 ghost use Rattle.std.specs.Prelude.{◌≡◌, ◌≢◌, ◌↔◌, ◌+◌, List, [], ◌∷◌, ℕ, map, Some, IsTrue, IsSome, string_bytes};
 ghost use Rattle.elf_read.specs.FirstForm.{HasFirstForm};
 ghost use Rattle.guard_cli.specs.Words.{Pair, IsHarden, IsCommand};
 ghost use Rattle.guard_cli.specs.Runs.{files_seen, screen_seen, EndsAs, IsMisused, IsRefusedAtOnce, CountsGrow, CountsStay, IsCalm, IsDoneOrNoMemory};
+
+pub use endings::Ending;
 
 use crate::commands::{harden_pair, tell, tell_made};
 use crate::decisions::at_start;

@@ -3,12 +3,16 @@
 
 mod counts;
 mod errors;
+mod host;
 mod mem_shelf;
 mod mem_sink;
 mod shelf;
 mod sink;
+#[cfg(test)]
+mod tests;
 
 pub use errors::{LoadErr, PutErr, SaveErr};
+pub use host::{HostShelf, HostSink};
 pub use mem_shelf::{MemShelf, NamedFile, have_different_names};
 pub use mem_sink::MemSink;
 pub use shelf::Shelf;

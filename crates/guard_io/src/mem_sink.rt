@@ -4,11 +4,10 @@ ghost use Rattle.std.specs.Prelude.{◌≡◌, ◌≢◌, ◌≤◌, ◌↔◌, 
 ghost use Rattle.guard_io.specs.Memory.{new_sink, is_listed, is_steady_sink, with_bytes, with_put, with_put_fault};
 ghost use Rattle.guard_io.specs.Outside.{Rose, IsPartlyPut};
 
-use std::alloc::Global;
-use std::marker::Model;
-
 use crate::counts::{is_made_to_fail, raise};
 use crate::{PutErr, Sink};
+use std::alloc::Global;
+use std::marker::Model;
 
 /// A sink that tells what was put. The calls that are made to fail are listed by their numbers, which
 /// count all calls from 0, however they end, and stand still at 2^64 - 1.
@@ -26,10 +25,10 @@ impl Model for MemSink {
     ghost Value = { MemorySink };
 
     ghost view = { λ s. record {
-        bytes = s.bytes.items;
-        fail = s.fail.items;
-        calls = s.calls;
-        faults = s.faults;
+      bytes = s.bytes.items;
+      fail = s.fail.items;
+      calls = s.calls;
+      faults = s.faults;
     } };
 }
 
@@ -66,7 +65,8 @@ impl Sink for MemSink {
     #[tactic(auto, using(crate::proofs::Calls::call_laws))]
     fn put(&mut self, bytes: &[u8]) -> Result<(), PutErr>
         ensures put { OnOk result (self.new.bytes ≡ self.old.bytes ++ bytes.now) }
-        ensures part { result ≡ Err PutErr.Failed → IsPartlyPut self.old.bytes bytes.now self.new.bytes }
+        ensures part { result ≡ Err PutErr.Failed →
+            IsPartlyPut self.old.bytes bytes.now self.new.bytes }
         ensures count { self.old.faults ≤ self.new.faults }
         ensures failed { result ≡ Err PutErr.Failed → Rose self.old.faults self.new.faults }
         ensures memory { result ≡ Err PutErr.Memory → self.new.bytes ≡ self.old.bytes }
@@ -76,7 +76,8 @@ impl Sink for MemSink {
         ensures calm_count { IsTrue (is_steady_sink self.old) → self.new.faults ≡ self.old.faults }
 
         // It fails exactly where the call is listed, and then nothing is appended.
-        ensures exactly { (result ≡ Err PutErr.Failed) ↔ IsTrue (is_listed self.old.fail self.old.calls) }
+        ensures exactly { (result ≡ Err PutErr.Failed) ↔
+            IsTrue (is_listed self.old.fail self.old.calls) }
         ensures after { OnOk result (self.new ≡ with_bytes self.old bytes.now) }
         ensures after_fault { result ≡ Err PutErr.Failed → self.new ≡ with_put_fault self.old }
         ensures after_want { result ≡ Err PutErr.Memory → self.new ≡ with_put self.old }

@@ -3,9 +3,8 @@
 ghost use Rattle.std.specs.Prelude.{◌≡◌, ◌≢◌, ◌≤◌, ℕ, Bool, true, List, Option, Some, IfOk, OnOk, IsTrue, IsSome, vec_len};
 ghost use Rattle.guard_io.specs.Outside.{Rose, IsLoaded, SameFiles, SameOthers, IsPartlySaved};
 
-use std::alloc::Global;
-
 use crate::{LoadErr, SaveErr};
+use std::alloc::Global;
 
 /// Files by name. A shelf may tell what its files hold, and counts what fails outside the program. A
 /// count of faults never falls, and stands still at 2^64 - 1. One that tells its files may be steady:

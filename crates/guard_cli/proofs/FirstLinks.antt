@@ -1,0 +1,129 @@
+-- An object of one function has an image where its code fits. So what is made of the first form has one where the room is long enough.
+use Rattle.std.proofs.Common.{◌≡◌, ◌⊎◌, ℕ, zero, suc, ◌+◌, ◌%◌, ◌<◌, ◌≤◌, true, List, [], ◌∷◌, length, map, Some, codes, Contains, slice_get, refl, sym, ap, ◌∙◌, subst, inl, inr, true≢false, length-append, lit<, arith}
+use Rattle.std.specs.List.Sorted.{IsStrictlyIncreasing}
+use Rattle.std.proofs.lemmas.Bool.{cases_lt}
+use Rattle.std.proofs.lemmas.List.Elements.{All-cons, All-nil}
+use Rattle.std.proofs.lemmas.Option.{same_Some}
+use Rattle.elf_model.specs.declared.objects.Section.{Section}
+use Rattle.elf_model.specs.declared.objects.Symbol.{Symbol}
+use Rattle.elf_model.specs.Objects.{ObjectParts}
+use Rattle.elf_model.specs.Canonical.{round_up}
+use Rattle.elf_model.specs.Maps.{map_section}
+use Rattle.elf_read.specs.FirstForm.{IsFirstCode, code_bytes, first_object, code_symbol, function_symbol}
+use Rattle.guard_cli.specs.Output.{doubled, rows_of, hardened_object}
+use Rattle.guard_cli.specs.Marks.{bare}
+use Rattle.guard_cli.specs.Images.{Placement, IsPlacement, Part, Defined, IsDataStart, IsStop, CanLink, Image, IsImage, code_bytes_of, is_function, even, address_of, is_mapping_of}
+use Rattle.guard_cli.proofs.FirstImages.{lone_object, AreIdle, map_idle, text_part, text_parts, lone_parts, lone_code_bytes, lone_data_bytes, lone_entries, entry_at, first_formed, even_of_entry, length_doubled_bytes}
+
+pub only_one : {X : Type 0} (x y : X) → Contains (x ∷ []) y → y ≡ x
+only_one x y (zero, lt, e) = sym e
+only_one x y (suc k, lt, e) = absurd (omega arith)
+
+pub one_of_two : {X : Type 0} (x y z : X) → Contains (x ∷ y ∷ []) z → (z ≡ x) ⊎ (z ≡ y)
+one_of_two x y z (zero, lt, e) = inl (sym e)
+one_of_two x y z (suc zero, lt, e) = inr (sym e)
+one_of_two x y z (suc (suc k), lt, e) = absurd (omega arith)
+
+pub is_not_empty : (halves : List ℕ) → IsFirstCode halves → 0 < length halves
+is_not_empty halves is = subst (λ hs. 0 < length hs) (sym is.ends) (omega (arith, length-append is.moves (0x4770 ∷ [])))
+
+-- the stops of a function that is its section: where it starts, and where it ends
+abbrev pub stops_of : ℕ → List ℕ → List ℕ
+stops_of base bytes = base ∷ (base + length bytes) ∷ []
+
+stops_rise : (base : ℕ) (bytes : List ℕ) → 0 < length bytes → IsStrictlyIncreasing (stops_of base bytes)
+stops_rise base bytes l zero lt = omega arith
+stops_rise base bytes l (suc k) lt = absurd (omega arith)
+
+-- the symbols, numbered
+abbrev the_code : Defined
+the_code = record { object = 0; index = 0; symbol = code_symbol }
+
+abbrev the_function : List ℕ → Defined
+the_function bytes = record { object = 0; index = 1; symbol = function_symbol (length bytes) }
+
+abbrev lone : List ℕ → List Section → List ObjectParts
+lone bytes more = lone_object bytes more ∷ []
+
+-- the image of an object of one function
+abbrev pub lone_image : List ℕ → Placement → Image
+lone_image bytes at = record {
+  code = record { base = at.base; bytes = bytes; marks = []; stops = stops_of at.base bytes };
+  memory = record { base = at.base + at.room; cells = [] };
+  room = at.room;
+  parts = text_parts at.base bytes;
+  entries = entry_at at.base ∷ [];
+}
+
+module _ (bytes : List ℕ) (more : List Section) where
+  -- no symbol says that data begins
+  is_no_data : (k : ℕ) (s : Symbol) → slice_get (lone_object bytes more).symbols k ≡ Some s → is_mapping_of (codes "$d") s ≡ true → ⊥
+  is_no_data zero s e m = true≢false (sym m ∙ ap (is_mapping_of (codes "$d")) (sym (same_Some _ _ e)))
+  is_no_data (suc zero) s e m = true≢false (sym m ∙ ap (is_mapping_of (codes "$d")) (sym (same_Some _ _ e)))
+  is_no_data (suc (suc k)) s e m = cc
+
+  no_data_starts : (p : Part) (o : ObjectParts) (x : ℕ) → p.object ≡ 0 → slice_get (lone bytes more) p.object ≡ Some o → IsDataStart o p.index x → ⊥
+  no_data_starts p o x e found d =
+      let first : slice_get (lone bytes more) 0 ≡ Some o = subst (λ k. slice_get (lone bytes more) k ≡ Some o) e found in
+      is_no_data d.index d.symbol (subst (λ (v : ObjectParts). slice_get v.symbols d.index ≡ Some d.symbol) (sym (same_Some (lone_object bytes more) o first)) d.is_there) d.is_data
+
+  stop_is_listed : (base : ℕ) → base % 4096 ≡ 0 → (a : ℕ) → IsStop (lone bytes more) (text_parts base bytes) a → Contains (stops_of base bytes) a
+  stop_is_listed base h a (IsStop.at_function d there is) =
+      elim (one_of_two the_code (the_function bytes) d there) [
+        | inl e ↦ absurd (true≢false (sym is ∙ ap (is_function (text_parts base bytes)) e))
+        | inr e ↦ (0, lit< tt, sym (ap (λ (v : Defined). even (address_of (text_parts base bytes) v)) e ∙ even_of_entry base h))
+      ]
+  stop_is_listed base h a (IsStop.at_data p o x there is found starts) =
+      absurd (no_data_starts p o x (ap (λ (q : Part). q.object) (only_one (text_part base bytes) p there)) found starts)
+  stop_is_listed base h a (IsStop.at_end p there is) =
+      (1, lit< tt, sym (ap (λ (q : Part). q.start + q.section.size) (only_one (text_part base bytes) p there)))
+
+  listed_is_stop : (base : ℕ) → base % 4096 ≡ 0 → (a : ℕ) → Contains (stops_of base bytes) a → IsStop (lone bytes more) (text_parts base bytes) a
+  listed_is_stop base h a (zero, lt, e) =
+      subst (IsStop (lone bytes more) (text_parts base bytes)) (even_of_entry base h ∙ e) (IsStop.at_function (the_function bytes) (1, lit< tt, refl) refl)
+  listed_is_stop base h a (suc zero, lt, e) =
+      subst (IsStop (lone bytes more) (text_parts base bytes)) e (IsStop.at_end (text_part base bytes) (0, lit< tt, refl) refl)
+  listed_is_stop base h a (suc (suc k), lt, e) = absurd (omega arith)
+
+  module _ (idle : AreIdle more) (at : Placement) (p : IsPlacement at) (ends : at.base + at.room ≤ 0x7FFFF000) (fits : length bytes ≤ at.room) where
+    lone_links : CanLink (lone bytes more) at
+    lone_links =
+        let none = lone_data_bytes bytes more idle at p in
+        record {
+          no_relocations = All-cons (λ (o : ObjectParts). o.relocs ≡ []) (lone_object bytes more) [] refl (All-nil (λ (o : ObjectParts). o.relocs ≡ []));
+          once = (λ d e there also same.
+              let both : d ≡ e = only_one (the_function bytes) d there ∙ sym (only_one (the_function bytes) e also) in
+              (ap (λ (v : Defined). v.object) both, ap (λ (v : Defined). v.index) both));
+          code_fits = subst (λ (b : List ℕ). length b ≤ at.room) (sym (lone_code_bytes bytes more idle at p)) fits;
+          data_fits = subst (λ (b : List ℕ). round_up (length b) 8 + at.stack ≤ 16777216) (sym none) (omega (arith, p.stack_high));
+          end_fits = subst (λ (b : List ℕ). at.base + at.room + length b ≤ 0x7FFFF000) (sym none) (omega arith);
+        }
+
+    pub lone_is_image : 0 < length bytes → IsImage (lone bytes more) at (lone_image bytes at)
+    lone_is_image long = record {
+      placement = p;
+      can = lone_links;
+      parts = sym (lone_parts bytes more idle at p);
+      code_base = refl;
+      code_bytes = sym (lone_code_bytes bytes more idle at p);
+      marks = refl;
+      stops = (λ a. (listed_is_stop at.base p.base_even a, stop_is_listed at.base p.base_even a));
+      stops_rise = stops_rise at.base bytes long;
+      memory = ap (λ (b : List ℕ). record { base = at.base + at.room; cells = map bare b }) (sym (lone_data_bytes bytes more idle at p));
+      room = refl;
+      entries = sym (lone_entries bytes more idle at p);
+    }
+
+-- Where an object of the first form has an image, what is made of it has one, unless its code is longer than the room.
+pub first_links : (halves : List ℕ) → IsFirstCode halves → (at : Placement) (plain : Image) → IsImage (first_object halves ∷ []) at plain →
+    ((hard : Image) × IsImage (hardened_object halves ∷ []) at hard) ⊎ (at.room < length (code_bytes_of (hardened_object halves ∷ []) at))
+first_links halves is at plain i =
+    let f = first_formed halves at plain i in
+    let bytes = code_bytes (doubled halves) in
+    let more = map_section (rows_of halves) ∷ [] in
+    let idle = map_idle (rows_of halves) in
+    let long : 0 < length bytes = omega (arith, length_doubled_bytes halves, is_not_empty halves is) in
+    elim (cases_lt at.room (length bytes)) [
+      | inl over ↦ inr (subst (λ (b : List ℕ). at.room < length b) (sym (lone_code_bytes bytes more idle at f.placement)) over)
+      | inr fits ↦ inl (lone_image bytes at, lone_is_image bytes more idle at f.placement f.end_fits fits long)
+    ]

@@ -1,0 +1,64 @@
+-- What hardening promises: skips do no harm.
+use Rattle.std.specs.Prelude.{◌≡◌, ◌<◌, ◌≤◌, ◌⊎◌, ℕ, ◌+◌, ◌*◌, ◌^◌, ◌==◌, ◌||◌, nat_lt, false, List, [], ◌∷◌, length, Option, Some, None, All, slice_get, filter}
+use Rattle.elf_model.specs.declared.objects.Section.{Section}
+use Rattle.elf_model.specs.declared.objects.MapRow.{MapRow}
+use Rattle.elf_model.specs.Objects.{ObjectParts, is_code}
+use Rattle.elf_model.specs.Maps.{HasMap, row_kind}
+use Rattle.guard_cli.specs.States.{State}
+use Rattle.guard_cli.specs.Schedules.{IsLegal, Returns, OrdinaryRun, is_in}
+use Rattle.guard_cli.specs.Images.{Placement, Image, IsImage, code_bytes_of, entry_of, start}
+use Rattle.guard_cli.specs.AddressMaps.{TakesEntry, SameState}
+
+-- the rows rise strictly by section, old offset and kind
+pub record IsBefore (a b : MapRow) : Type 0 where
+  pub before : (a.section < b.section) ⊎ ((a.section ≡ b.section) × ((a.old < b.old) ⊎ ((a.old ≡ b.old) × (row_kind a.kind < row_kind b.kind))))
+
+abbrev pub Rise : List MapRow → Type 0
+Rise [] = Unit {0}
+Rise (r ∷ rest) = All (IsBefore r) rest × Rise rest
+
+-- each output has its map
+pub record AreMaps (outs : List ObjectParts) (maps : List (List MapRow)) : Type 0 where
+  pub count : length maps ≡ length outs
+  pub has : (i : ℕ) (o : ObjectParts) (rows : List MapRow) → slice_get outs i ≡ Some o → slice_get maps i ≡ Some rows → HasMap o rows
+  pub rise : All Rise maps
+
+abbrev pub code_sections : ObjectParts → List Section
+code_sections o = filter is_code o.sections
+
+-- no code section of an output is longer than 32 times its input's
+abbrev pub AreShort : List ObjectParts → List ObjectParts → Type 0
+AreShort ins outs =
+    (i k : ℕ) (o h : ObjectParts) (t : Section) → slice_get ins i ≡ Some o → slice_get outs i ≡ Some h → slice_get (code_sections h) k ≡ Some t →
+    (s : Section) × (slice_get (code_sections o) k ≡ Some s) × (t.size ≤ 32 * s.size)
+
+-- the arguments of a call
+pub record AreArguments (args : List ℕ) : Type 0 where
+  pub few : length args ≤ 4
+  pub each : All (λ a. a < 2 ^ 32) args
+
+-- The hardened call ends within F times the steps of the plain one, whatever is skipped, so long as no two
+-- steps in a row are, and the states at the end are the same up to code addresses.
+abbrev pub EndsAlike : Image → Image → List (List MapRow) → ℕ → ℕ → State → State → State → Type 0
+EndsAlike plain hard maps F n begun ended hard_begun =
+    (schedule : List ℕ) → IsLegal 2 schedule →
+    (hard_ended : State) × Returns hard.code (is_in schedule) (F * n) hard_begun hard_ended × SameState plain hard maps ended hard_ended
+
+-- Hardened(ins, outs, F): outs are ins, hardened, and no unit of code grows to more than F instructions.
+pub record Hardened (ins outs : List ObjectParts) (F : ℕ) : Type 0 where
+  pub maps : List (List MapRow)
+  pub count : length outs ≡ length ins
+  pub are_maps : AreMaps outs maps
+  pub low : 1 ≤ F
+  pub high : F ≤ 16
+  pub short : AreShort ins outs
+  -- Where the inputs have an image the outputs have one, unless their code is longer than the room.
+  pub linked : (at : Placement) (plain : Image) → IsImage ins at plain →
+      ((hard : Image) × IsImage outs at hard) ⊎ (at.room < length (code_bytes_of outs at))
+  -- Calls that return by ordinary steps return alike under every schedule.
+  pub alike : (at : Placement) (plain hard : Image) → IsImage ins at plain → IsImage outs at hard →
+      (name args : List ℕ) → AreArguments args → (entry : ℕ) → entry_of plain.entries name ≡ Some entry →
+      (n : ℕ) (ended : State) → (r : Returns plain.code (λ i. false) n (start plain at.stack entry args) ended) →
+      OrdinaryRun plain.code r.steps (start plain at.stack entry args) →
+      (hard_entry : ℕ) × (entry_of hard.entries name ≡ Some hard_entry) × TakesEntry plain hard maps entry hard_entry
+      × EndsAlike plain hard maps F n (start plain at.stack entry args) ended (start hard at.stack hard_entry args)
