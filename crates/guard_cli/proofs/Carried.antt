@@ -9,7 +9,7 @@ use Rattle.guard_cli.specs.declared.endings.Ending.{Ending}
 use Rattle.guard_cli.specs.declared.endings.Ending.TheVariants.{Done, Refused, Usage, ReadFault, WriteFault, PrintFault, NoMemory}
 use Rattle.guard_cli.specs.Words.{Pair}
 use Rattle.guard_cli.specs.Runs.{Files, Screen, SameBut, Untouched, IsSaved, IsHalfSaved, IsPut, IsCutOff, IsToldOf, IsInputRefusal, file_limit, IsRead, IsDone, IsRefusedFor, IsUnread, IsUnsaved, IsUnsaid, IsUntouchedOrSaved, EndsAs, output_of, report_of}
-use Rattle.guard_cli.specs.Steps.{IsDecided, ReportEndsAs}
+use Rattle.guard_cli.specs.Outcomes.{IsDecided, ReportEndsAs}
 
 -- A file of which less was loaded than might have been was loaded whole.
 pub loaded_whole : (content : Option (List ℕ)) (most : ℕ) (bytes : List ℕ) → IsLoaded content most bytes → length bytes < most → content ≡ Some bytes

@@ -12,7 +12,7 @@ use Rattle.guard_cli.specs.Output.{doubled, rows_from, rows_of, hardened_object}
 use Rattle.guard_cli.specs.declared.texts.Counts.{Counts}
 use Rattle.guard_cli.specs.Texts.{report}
 use Rattle.guard_cli.specs.Runs.{report_of}
-use Rattle.guard_cli.specs.Steps.{tally_with}
+use Rattle.guard_cli.specs.Outcomes.{tally_with}
 use Rattle.guard_cli.specs.HardenedFile.{symbols_at, head, symbol_words, names, header_words, tables, doubled_bytes}
 
 abbrev object_with : List ℕ → List MapRow → ObjectParts

@@ -2,12 +2,10 @@ pub mod Words
 pub mod Output
 pub mod Texts
 pub mod Runs
-<<<<<<< HEAD
 pub mod Commands
 pub mod Statuses
 pub mod HardenedFile
-pub mod Steps
-=======
+pub mod Outcomes
 pub mod Marks
 pub mod Formulas
 pub mod Instructions
@@ -18,4 +16,3 @@ pub mod Images
 pub mod AddressMaps
 pub mod Hardened
 pub mod Promise
->>>>>>> d9fcaa5ce653709f531b89a640265bf5aa85f7aa

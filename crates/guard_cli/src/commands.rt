@@ -4,7 +4,7 @@ ghost use Rattle.std.specs.Prelude.{◌≡◌, ◌≢◌, ◌≤◌, ℕ, List, 
 ghost use Rattle.guard_io.specs.Outside.{IsLoaded};
 ghost use Rattle.guard_cli.specs.Words.{Pair};
 ghost use Rattle.guard_cli.specs.Runs.{files_seen, screen_seen, IsRead, IsToldOf, EndsAs, CountsGrow, CountsStay, output_of, report_of};
-ghost use Rattle.guard_cli.specs.Steps.{ReportEndsAs};
+ghost use Rattle.guard_cli.specs.Outcomes.{ReportEndsAs};
 
 use crate::Ending;
 use crate::decisions::{Decided, decide};

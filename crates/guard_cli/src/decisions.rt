@@ -3,7 +3,7 @@
 ghost use Rattle.std.specs.Prelude.{◌≡◌, ◌*◌, ◌≤◌, ℕ, List, [], IfOk, IfErr, string_bytes};
 ghost use Rattle.elf_read.specs.FirstForm.{IsFirstObject, first_object, at_start};
 ghost use Rattle.guard_cli.specs.Runs.{output_of, report_of};
-ghost use Rattle.guard_cli.specs.Steps.{IsDecided, IsTurnedDown};
+ghost use Rattle.guard_cli.specs.Outcomes.{IsDecided, IsTurnedDown};
 
 use crate::form::{code_of, hardened_file};
 use crate::texts::{Counts, report_text};

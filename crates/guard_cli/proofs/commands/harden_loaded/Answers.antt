@@ -2,7 +2,7 @@ use Rattle.std.proofs.Common.{refl, subst, arith}
 use Rattle.guard_cli.specs.Runs.{files_seen, screen_seen}
 use Rattle.guard_cli.specs.Texts.{refused_line}
 use Rattle.guard_cli.specs.Words.{Pair}
-use Rattle.guard_cli.specs.Steps.{IsTurnedDown}
+use Rattle.guard_cli.specs.Outcomes.{IsTurnedDown}
 use Rattle.guard_cli.proofs.Carried.{read_of, refused_whole}
 use Rattle.std.proofs.Common.{string_bytes}
 use Rattle.guard_cli.proofs.commands.harden_loaded.Goals as goal

@@ -1,7 +1,7 @@
 use Rattle.std.proofs.Common.{List, ℕ, Err, subst, sym, ap, ◌∙◌}
 use Rattle.guard_cli.specs.Runs.{Files, Screen, files_seen, screen_seen, IsSaved, IsHalfSaved, IsToldOf, report_of}
 use Rattle.guard_cli.specs.Texts.{write_fault_line}
-use Rattle.guard_cli.specs.Steps.{ReportEndsAs}
+use Rattle.guard_cli.specs.Outcomes.{ReportEndsAs}
 use Rattle.guard_cli.proofs.Carried.{ends_saved, saved_as, half_saved_as, report_as}
 use Rattle.guard_cli.proofs.commands.save_and_print.Goals as goal
 
