@@ -10,5 +10,6 @@ mod Written
 mod Headers
 mod Kept
 mod Symbols
+mod Sorted
 mod Tables
 pub mod Stands

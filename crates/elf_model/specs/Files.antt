@@ -1,5 +1,5 @@
 -- Which object the bytes of a file stand for: a formula at offsets for each field.
-use Rattle.std.specs.Prelude.{◌≡◌, ◌≤◌, ◌<◌, ◌≢◌, ℕ, zero, suc, ◌+◌, ◌-◌, ◌*◌, ◌/◌, ◌%◌, ◌^◌, ◌==◌, nat_lt, ◌&&◌, ◌||◌, not, max, Bool, List, [], ◌∷◌, length, map, take, drop, Option, Some, None, if◌then◌else◌, count_by, filter, find, IsTrue, IsPermutation}
+use Rattle.std.specs.Prelude.{◌≡◌, ◌≤◌, ◌<◌, ◌≢◌, ℕ, zero, suc, ◌+◌, ◌-◌, ◌*◌, ◌/◌, ◌%◌, ◌^◌, ◌==◌, nat_lt, ◌&&◌, ◌||◌, not, max, Bool, false, List, [], ◌∷◌, length, map, take, drop, Option, Some, None, if◌then◌else◌, count_by, filter, find, IsTrue, IsPermutation}
 use Rattle.std.specs.List.{list_any, before_first, flat_map}
 use Rattle.elf_model.specs.declared.objects.Section.{Section}
 use Rattle.elf_model.specs.declared.objects.Symbol.{Symbol}
@@ -179,7 +179,7 @@ pub record HasTables (b : List ℕ) : Type 0 where
   pub inside : (h : ℕ) → 0 < h → h < header_count b → (header b h).kind ≢ nobits → (header b h).offset + (header b h).size ≤ length b
   pub one_symbol_table : (h k : ℕ) → IsKind b h symtab → IsKind b k symtab → h ≡ k
   pub symbol_entries : (h : ℕ) → IsKind b h symtab → ((header b h).entry ≡ 16) × ((header b h).size % 16 ≡ 0) × IsKind b (header b h).link strtab
-  pub reloc_entries : (h : ℕ) → IsKind b h rel → ((header b h).entry ≡ 8) × ((header b h).size % 8 ≡ 0) × IsKind b (header b h).link symtab
+  pub reloc_entries : (h : ℕ) → IsKind b h rel → ((header b h).entry ≡ 8) × ((header b h).size % 8 ≡ 0) × IsKind b (header b h).link symtab × (0 < (header b h).info) × ((header b h).info < header_count b) × (is_table (header b (header b h).info).kind ≡ false)
   pub names_end : (h : ℕ) → 0 < h → h < header_count b → (header b h).kind ≢ rel → EndsAt b (half_at b 50) (header b h).name
   pub symbol_names_end : (t k : ℕ) → IsKind b t symtab → 0 < k → k < (header b t).size / 16 → EndsAt b (header b t).link (word_at b ((header b t).offset + 16 * k))
 
