@@ -11,5 +11,6 @@ mod Headers
 mod Kept
 mod Symbols
 mod Sorted
+mod Relocs
 mod Tables
 pub mod Stands
