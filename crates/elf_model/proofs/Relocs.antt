@@ -1,29 +1,28 @@
 -- The relocations that are read of a canonical file are the object's.
-use Rattle.std.proofs.Common.{◌≡◌, ◌≢◌, ◌≤◌, ◌<◌, ℕ, zero, suc, ◌+◌, ◌-◌, ◌*◌, ◌/◌, ◌%◌, ◌^◌, Bool, true, false, cond, not, ◌&&◌, ◌||◌, List, [], ◌∷◌, ◌++◌, length, get_or, drop, Option, Some, None, refl, sym, ap, ◌∙◌, subst, inl, inr, ◌⊎◌, arith, map, filter}
-use Rattle.std.specs.Prelude.{slice_get, All, ◌==◌, if◌then◌else◌, nat_lt, count_by, codes}
-use Rattle.std.specs.List.{list_any, list_all, flat_map}
+use Rattle.std.proofs.Common.{◌≡◌, ◌≢◌, ◌≤◌, ◌<◌, ℕ, zero, suc, ◌+◌, ◌-◌, ◌*◌, ◌/◌, ◌%◌, Bool, true, false, cond, not, ◌&&◌, List, [], ◌∷◌, ◌++◌, length, get_or, drop, Option, Some, refl, sym, ap, ◌∙◌, subst, inl, inr, arith, map, filter}
+use Rattle.std.specs.Prelude.{slice_get, All, ◌==◌, nat_lt, count_by, codes}
+use Rattle.std.specs.List.{list_any, flat_map}
 use Rattle.std.proofs.Math.Nat.{mod-eq_of_lt, mul-add-mod_self_right}
 use Rattle.std.proofs.lemmas.Nat.{div-mul-add}
-use Rattle.std.proofs.lemmas.List.{append-nil, drop-drop, length-append, length-map, map-append}
+use Rattle.std.proofs.lemmas.List.{append-nil, drop-drop, map-append}
 use Rattle.std.proofs.lemmas.List.Elements.{filter-append, All-head, All-tail}
-use Rattle.std.proofs.lemmas.Option.{none-some, same_Some, slice_get_past, slice_get-get_or}
-use Rattle.std.proofs.lemmas.Bool.{and_parts, and_left, cases_lt, cases_eq, cases_Bool, ne_eqb, eq-eqb, lt-ltb, le-ltb, ltb-true, eqb-true, false≢true, not_from_false, not-true, or_right}
+use Rattle.std.proofs.lemmas.Option.{none-some, same_Some, slice_get_past}
+use Rattle.std.proofs.lemmas.Bool.{and_parts, and_left, cases_lt, ne_eqb, ltb-true, eqb-true, false≢true}
 use Rattle.std.proofs.lemmas.Bool.Decides.{nat_tests}
 use Rattle.elf_model.specs.declared.objects.Section.{Section}
-use Rattle.elf_model.specs.declared.objects.Symbol.{Symbol}
 use Rattle.elf_model.specs.declared.objects.Reloc.{Reloc}
 use Rattle.elf_model.specs.declared.objects.RelocKind.{RelocKind}
 use Rattle.elf_model.specs.declared.objects.RelocKind.TheVariants.{Abs32, Target1, ThmCall, ThmJump24, MovwAbs, MovtAbs, ThmJump19, ThmJump11, ThmJump8, Other}
 use Rattle.elf_model.specs.Constants.{rel}
-use Rattle.elf_model.specs.Fields.{word_at, word}
+use Rattle.elf_model.specs.Fields.{word_at}
 use Rattle.elf_model.specs.Objects.{ObjectParts, is_reloc, is_placed, is_kind, reloc_code}
-use Rattle.elf_model.specs.Files.{header, header_count, headers, from, kept_headers, kept_symbols, section_number, symbol_number, symbol_table, is_reloc_table, entries_of, reloc_entries, reloc_kind, reloc_of}
-use Rattle.elf_model.specs.Canonical.{FileSection, file_sections, own_section, reloc_section, relocated, relocs_in, reloc_row, symtab_section, strings_section, section_header, symtab_header, section_names, symbol_names}
+use Rattle.elf_model.specs.Files.{header, header_count, headers, from, kept_headers, section_number, symbol_number, symbol_table, is_reloc_table, entries_of, reloc_entries, reloc_kind, reloc_of}
+use Rattle.elf_model.specs.Canonical.{FileSection, file_sections, own_section, reloc_section, relocated, relocs_in, reloc_row, symtab_section, strings_section, symtab_header, section_names, symbol_names}
 use Rattle.elf_model.specs.Fits.{RelocFits}
 use Rattle.elf_model.proofs.FieldsRead.{word_read, drop_further}
 use Rattle.elf_model.proofs.Lists.{All_at, there, from-append, filter_kept, filter_dropped, filter_made, any_from, count_from, map_from, map-map}
 use Rattle.elf_model.proofs.Sections.{SectionFacts, not_rel}
-use Rattle.elf_model.proofs.Written.{ObjectFacts, tables_of, table_at, count_sections, own_at, reloc_section_at, relocated_below}
+use Rattle.elf_model.proofs.Written.{tables_of, table_at, count_sections, own_at, reloc_section_at, relocated_below}
 use Rattle.elf_model.proofs.Headers.{Reading, head, drop_there, header_total}
 use Rattle.elf_model.proofs.Kept.{kept_are, number_is}
 use Rattle.elf_model.proofs.Symbols.{symbol_table_is, kept_symbols_are}
@@ -180,8 +179,7 @@ module _ (o : ObjectParts) (b : List ℕ) (r : Reading o b) where
       drop_further b (header b h).offset (8 * k) (flat_map reloc_row (relocs_in o p.0) ++ held.0) held.1 ∙ reloc_row_at (relocs_in o p.0) held.0 k x at in
       let code = f.code in
       let symbol = g.symbol in
-      let many = r.fits.symbol_count in
-      (
+      let many = r.fits.symbol_count in (
         word_read b place x.offset (drop 4 (reloc_row x ++ rest)) row f.offset,
         word_read b (place + 4) ((x.symbol + 1) * 256 + reloc_code x.kind) rest (drop_further b place 4 (reloc_row x ++ rest) row) (omega arith),
       )

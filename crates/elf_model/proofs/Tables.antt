@@ -111,10 +111,12 @@ module _ (o : ObjectParts) (b : List ℕ) (r : Reading o b) where
             let at = section_at h k.0 k.1 in
             let fields = fields_at h at.0 k.0 at.1 in
             let entries = All_at (HasEntries o) (file_sections o) (h - 1) at.0 (entries_fit o r.facts) at.1 (sym fields.kind ∙ k.2) in
-            let info = fields.info in
-            (
-              fields.entry ∙ entries.0, ap (λ (n : ℕ). n % 8) fields.size ∙ entries.1, subst (λ (t : ℕ). IsKind b t symtab) (sym (fields.link ∙ entries.2)) symtab_kind,
-              omega (arith, info, entries.3), omega (arith, info, entries.4, many, own_many),
+            let info = fields.info in (
+              fields.entry ∙ entries.0,
+              ap (λ (n : ℕ). n % 8) fields.size ∙ entries.1,
+              subst (λ (t : ℕ). IsKind b t symtab) (sym (fields.link ∙ entries.2)) symtab_kind,
+              omega (arith, info, entries.3),
+              omega (arith, info, entries.4, many, own_many),
               own_no_table ((header b h).info - 1) (header b h).info (omega (arith, info, entries.3)) (omega (arith, info, entries.3, entries.4)),
             );
         names_end = λ h l u k.
