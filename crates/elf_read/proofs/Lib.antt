@@ -1,2 +1,4 @@
 pub mod Frame
 pub mod Moves
+pub mod Refusing
+pub mod Standing

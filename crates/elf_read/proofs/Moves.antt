@@ -5,7 +5,7 @@ use Rattle.std.specs.Str.{bytes_eq}
 use Rattle.std.proofs.lemmas.Bool.{eqb-true, eq-eqb}
 use Rattle.std.proofs.lemmas.Bool.Decides.{nat_tests}
 use Rattle.std.proofs.lemmas.Grind.{flat_map-append}
-use Rattle.std.proofs.lemmas.List.{length-append, take-append-drop}
+use Rattle.std.proofs.lemmas.List.{get_or-drop, at_drop_all, at_drop_more, length-append, take-append-drop}
 use Rattle.std.proofs.Math.Seq.{take-append_seam, drop-append_seam}
 use Rattle.std.proofs.lemmas.List.Elements.{All-cons}
 use Rattle.std.proofs.lemmas.Slice.Eq.{bytes_eq-Decides}
@@ -57,14 +57,14 @@ pub record IsMoves (code : List ℕ) : Type 0 where
 
 IsMoves-more : (low high : ℕ) (rest : List ℕ) → low < 256 → high < 256 → eqb (high / 8) 4 ≡ true → IsMoves rest → IsMoves (low ∷ high ∷ rest)
 IsMoves-more low high rest l h move m = record {
-    halves = (low + 256 * high) ∷ m.halves;
-    each = All-cons IsMove _ m.halves (is_move low high l (eqb-true (high / 8) 4 move)) m.each;
-    bytes =
+  halves = (low + 256 * high) ∷ m.halves;
+  each = All-cons IsMove _ m.halves (is_move low high l (eqb-true (high / 8) 4 move)) m.each;
+  bytes =
       let a = low_byte low high l h in
       let b = high_byte low high l h in
       let e = m.bytes in
       cc;
-  }
+}
 
 moves_from : (code : List ℕ) → are_moves code ≡ true → AreBytes code → IsMoves code
 moves_from [] h bytes = record { halves = []; each = λ k d l. absurd (omega arith); bytes = refl }
@@ -106,11 +106,14 @@ first_from_moves code m moves short e =
       bytes = bytes;
     }
 
-AreBytes-take : (xs : List ℕ) (n : ℕ) → AreBytes xs → AreBytes (take n xs)
+pub AreBytes-take : (xs : List ℕ) (n : ℕ) → AreBytes xs → AreBytes (take n xs)
 AreBytes-take xs zero bytes k = omega arith
 AreBytes-take [] (suc n) bytes k = omega arith
 AreBytes-take (x ∷ xs) (suc n) bytes zero = bytes 0
 AreBytes-take (x ∷ xs) (suc n) bytes (suc k) = AreBytes-take xs n (λ j. bytes (suc j)) k
+
+pub AreBytes-drop : (xs : List ℕ) (n : ℕ) → AreBytes xs → AreBytes (drop n xs)
+AreBytes-drop xs n bytes = λ k. rw get_or-drop (bytes (n + k))
 
 -- bytes that pass are those of moves and a return
 pub first_from_test : (code : List ℕ) → is_first_code code ≡ true → AreBytes code → IsFirstBytes code
@@ -122,3 +125,16 @@ first_from_test code h bytes =
     let few : leb (length code) 65536 ≡ true = second_of_both _ _ (first_of_both _ _ front) in
     let short : length code ≤ 65536 = grind (arith, nat_tests) in
     first_from_moves code (take n code) moves short (sym (take-append-drop n code) ∙ ap (λ x. take n code ++ x) back)
+
+-- one step of the test along the bytes
+pub moves_more : (xs : List ℕ) (i : ℕ) → i + 2 ≤ length xs → are_moves (drop i xs) ≡ (eqb (get_or xs (i + 1) 0 / 8) 4 && are_moves (drop (i + 2) xs))
+moves_more xs i h =
+    at_drop_more are_moves xs i 0 (omega arith)
+    ∙ at_drop_more (λ ys. are_moves (get_or xs i 0 ∷ ys)) xs (i + 1) 0 (omega arith)
+    ∙ ap (λ k. eqb (get_or xs (i + 1) 0 / 8) 4 && are_moves (drop k xs)) (omega arith)
+
+pub moves_odd : (xs : List ℕ) (i : ℕ) → i + 1 ≡ length xs → are_moves (drop i xs) ≡ false
+moves_odd xs i h = at_drop_more are_moves xs i 0 (omega arith) ∙ at_drop_all (λ ys. are_moves (get_or xs i 0 ∷ ys)) xs (i + 1) (omega arith)
+
+pub first_short : (code : List ℕ) → IsFirstBytes code → length code ≤ 65536
+first_short code f = let long : length code ≡ 2 * length f.halves = ap length f.bytes ∙ length-code f.halves in omega (arith, f.sound.short)

@@ -10,11 +10,11 @@ use Rattle.elf_read.specs.FirstForm.{IsFirstCode, code_bytes, text_section, code
 -- the object with these bytes of code
 abbrev pub object_with : List ℕ → ObjectParts
 object_with code = record {
-    sections = text_section code ∷ [];
-    symbols = code_symbol ∷ function_symbol (length code) ∷ [];
-    relocs = [];
-    flags = 0x05000000
-  }
+  sections = text_section code ∷ [];
+  symbols = code_symbol ∷ function_symbol (length code) ∷ [];
+  relocs = [];
+  flags = 0x05000000;
+}
 
 -- the bytes of moves and a return
 pub record IsFirstBytes (code : List ℕ) : Type 0 where

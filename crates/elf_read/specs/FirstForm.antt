@@ -46,11 +46,11 @@ function_symbol size = record { name = codes "f"; value = 1; size = size; bind =
 
 abbrev pub first_object : List ℕ → ObjectParts
 first_object halves = record {
-    sections = text_section (code_bytes halves) ∷ [];
-    symbols = code_symbol ∷ function_symbol (length (code_bytes halves)) ∷ [];
-    relocs = [];
-    flags = 0x05000000
-  }
+  sections = text_section (code_bytes halves) ∷ [];
+  symbols = code_symbol ∷ function_symbol (length (code_bytes halves)) ∷ [];
+  relocs = [];
+  flags = 0x05000000;
+}
 
 -- an object of the first form
 abbrev pub IsFirstObject : ObjectParts → Type 0

@@ -6,10 +6,9 @@ ghost use Rattle.elf_model.specs.Fields.{word};
 ghost use Rattle.elf_read.specs.FirstForm.{text_section, code_symbol, function_symbol};
 ghost use Rattle.elf_read.specs.FirstFile.{object_with, head, tail, symbol_words, header_words, first_file};
 
-use std::alloc::{AllocError, Global};
-
 use byteorder::{ByteOrder, LittleEndian};
 use elf_model::{Bytes, Home, Name, Object, Section, Symbol};
+use std::alloc::{AllocError, Global};
 
 /// The first bytes of a file.
 const IDENT: [u8; 16] = [0x7F, 0x45, 0x4C, 0x46, 1, 1, 1, 0, 0, 0, 0, 0, 0, 0, 0, 0];
@@ -36,7 +35,20 @@ fn put_head(file: &mut Vec<u8>, at: u32) -> Result<(), AllocError>
     ensures { OnOk result (file.new.items ≡ file.old.items ++ head at) }
 {
     file.extend_from_slice(&IDENT)?;
-    put_words(file, &[0x28_0001, 1, 0, 0, at + 88, 0x0500_0000, 52, 0x28_0000, 0x4_0005])
+    put_words(
+        file,
+        &[
+            0x28_0001,
+            1,
+            0,
+            0,
+            at + 88,
+            0x0500_0000,
+            52,
+            0x28_0000,
+            0x4_0005,
+        ],
+    )
 }
 
 fn put_symbols(file: &mut Vec<u8>, size: u32) -> Result<(), AllocError>
@@ -144,6 +156,9 @@ pub fn first_object(alloc: Global, code: &[u8]) -> Result<Object, AllocError>
     ensures { IfOk result (λ o. o ≡ object_with code.now) }
 {
     let sections = vec![in alloc; text_section(alloc, code)?]?;
-    let symbols = vec![in alloc; code_symbol(alloc)?, function_symbol(alloc, code.len() as u32)?]?;
+    let symbols = vec![in alloc;
+        code_symbol(alloc)?,
+        function_symbol(alloc, code.len() as u32)?,
+    ]?;
     Ok(elf_model::object(sections, symbols, Vec::new(alloc), 0x0500_0000).unwrap())
 }

@@ -61,5 +61,9 @@ pub fn code_of(bytes: &[u8]) -> Option<&[u8]>
         return None;
     }
     let code = &bytes[52..52 + size];
-    if is_first_code(code) { Some(code) } else { None }
+    if is_first_code(code) {
+        Some(code)
+    } else {
+        None
+    }
 }

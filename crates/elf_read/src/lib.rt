@@ -3,17 +3,18 @@
 
 ghost use Rattle.std.specs.Prelude.{◌≡◌, ◌<◌, ◌^◌, ℕ, length, IfOk, IfErr};
 ghost use Rattle.elf_model.specs.Canonical.{canonical};
+ghost use Rattle.elf_model.specs.Files.{StandsFor};
 ghost use Rattle.elf_read.specs.FirstForm.{IsFirstObject, IsDenied, at_start};
 
 mod file;
 mod form;
-
-use std::alloc::Global;
+#[cfg(test)]
+mod tests;
 
 use elf_model::{Deny, Limit, Object, Refusal, Spot};
-
 use file::{first_file, first_object};
 use form::{code_of, is_elf};
+use std::alloc::Global;
 
 /// An object that was read, and how many sections were left out: those of debug information and of
 /// unwind tables, and others that no linked program has.
@@ -38,6 +39,7 @@ fn refused(refusal: Refusal) -> Deny
 /// section with one function of moves that returns.
 pub fn read_object(alloc: Global, bytes: &[u8], _limit: &Limit) -> Result<Read, Deny>
     requires { length bytes.now < 2 ^ 32 }
+    ensures object { IfOk result (λ read. StandsFor bytes.now read.object) }
     ensures file { IfOk result (λ read. bytes.now ≡ canonical read.object) }
     ensures form { IfOk result (λ read. IsFirstObject read.object) }
     ensures dropped { IfOk result (λ read. read.dropped ≡ 0) }

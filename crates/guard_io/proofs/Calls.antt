@@ -1,11 +1,11 @@
 -- The numbers of the calls that are made to fail, and the number of the calls so far.
-use Rattle.std.proofs.Common.{◌≡◌, ◌<◌, ◌+◌, ◌-◌, ◌≤◌, ◌&&◌, ℕ, Bool, true, false, List, [], ◌∷◌, refl, arith, nat_lt, nat_eq, ◌==◌, ne_eqb}
+use Rattle.std.proofs.Common.{◌≡◌, ◌<◌, ◌≤◌, ◌&&◌, ℕ, Bool, true, false, List, [], ◌∷◌, refl, arith, nat_lt, ◌==◌, ne_eqb}
 use Rattle.std.specs.Cmp.Derive.{both_true}
 use Rattle.std.proofs.lemmas.Bool.Decides.{Decides-ltb}
 use Rattle.guard_io.specs.Memory.{is_listed, are_past}
 
 -- both tests of a conjunction hold
-both : (a b : Bool) → (a && b) ≡ true → (a ≡ true) × (b ≡ true)
+pub both : (a b : Bool) → (a && b) ≡ true → (a ≡ true) × (b ≡ true)
 both a b h = ((elim a as (λ v. (v && b) ≡ true → v ≡ true) [ true ↦ (λ e. refl) | false ↦ (λ e. cc e) ]) h, (elim a as (λ v. (v && b) ≡ true → b ≡ true) [ true ↦ (λ e. e) | false ↦ (λ e. absurd (cc e)) ]) h)
 
 pub are_past-more : (fail : List ℕ) (calls more : ℕ) → calls ≤ more → are_past fail calls ≡ true → are_past fail more ≡ true

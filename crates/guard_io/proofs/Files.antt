@@ -1,12 +1,17 @@
 -- What the files of a shelf in memory hold, by the place of a name and after a write.
-use Rattle.std.proofs.Common.{◌≡◌, ◌≢◌, ◌<◌, ◌+◌, ◌∙◌, ℕ, zero, suc, Bool, true, false, cond, List, [], ◌∷◌, ◌++◌, length, Option, Some, None, get_or, refl, sym, ap, arith, set, not}
-use Rattle.std.specs.List.{position, position_from}
+use Rattle.std.proofs.Common.{◌≡◌, ◌≢◌, ◌<◌, ◌+◌, ◌∙◌, ℕ, zero, suc, Bool, true, false, cond, List, [], ◌∷◌, ◌++◌, length, Some, None, get_or, refl, sym, ap, arith, set, not, ◌||◌, ◌&&◌}
+use Rattle.std.specs.List.{position_from}
 use Rattle.std.specs.Str.{bytes_eq}
 use Rattle.std.proofs.lemmas.List.Quantifiers.{position-Some}
 use Rattle.std.proofs.lemmas.Iterator.Adapters.{position_from-zero}
 use Rattle.std.proofs.lemmas.Slice.Eq.{bytes_eq-Decides}
 use Rattle.guard_io.specs.declared.mem_shelf.NamedFile.{NamedFile}
-use Rattle.guard_io.specs.Memory.{content, written, place}
+use Rattle.guard_io.specs.Memory.{content, written, place, is_named, names_differ}
+use Rattle.guard_io.proofs.Calls.{both}
+use Rattle.std.specs.Cmp.Derive.{both_true}
+
+true_is_not_false : true ≡ false → ⊥
+true_is_not_false e = cc
 
 abbrev named_file : List ℕ → List ℕ → NamedFile
 named_file name bytes = record { name = name; bytes = bytes }
@@ -94,6 +99,37 @@ content-written_other (f ∷ files) name bytes other different =
       | false ↦ (λ e. ap (λ rest. cond (has_name other f) (Some f.bytes) rest) (content-written_other files name bytes other different))
     ]) refl
 
+is_named-written : (files : List NamedFile) (name bytes other : List ℕ) → other ≢ name → is_named (written files name bytes) other ≡ is_named files other
+is_named-written [] name bytes other different =
+    let no : bytes_eq name other ≡ false = different_name name other (λ (e : name ≡ other). different (sym e)) in
+    rw no
+is_named-written (f ∷ files) name bytes other different =
+    let no : bytes_eq name other ≡ false = different_name name other (λ (e : name ≡ other). different (sym e)) in
+    (elim (has_name name f) as (λ b. has_name name f ≡ b → is_named (cond b (named_file name bytes ∷ files) (f ∷ written files name bytes)) other ≡ is_named (f ∷ files) other) [
+      | true ↦ (λ e. let here : f.name ≡ name = (bytes_eq-Decides f.name name).0 e in
+          let also : bytes_eq f.name other ≡ false = ap (λ n. bytes_eq n other) here ∙ no in
+          rw (no, also))
+      | false ↦ (λ e. ap (λ rest. has_name other f || rest) (is_named-written files name bytes other different))
+    ]) refl
+
+-- a write keeps the names different
+pub names_differ-written : (files : List NamedFile) (name bytes : List ℕ) → names_differ files ≡ true → names_differ (written files name bytes) ≡ true
+names_differ-written [] name bytes differ = refl
+names_differ-written (f ∷ files) name bytes differ =
+    let h = both (not (is_named files f.name)) (names_differ files) differ in
+    (elim (has_name name f) as (λ b. has_name name f ≡ b → names_differ (cond b (named_file name bytes ∷ files) (f ∷ written files name bytes)) ≡ true) [
+      | true ↦ (λ e. let here : f.name ≡ name = (bytes_eq-Decides f.name name).0 e in
+          ap (λ n. not (is_named files n) && names_differ files) (sym here) ∙ differ)
+      | false ↦ (λ e. let apart : f.name ≢ name = λ (same : f.name ≡ name). absurd (true_is_not_false (sym ((bytes_eq-Decides f.name name).1 same) ∙ e)) in
+          both_true (ap not (is_named-written files name bytes f.name apart) ∙ h.0) (names_differ-written files name bytes h.1))
+    ]) refl
+
+pub names_differ-more : (files : List NamedFile) (name bytes : List ℕ) → place files name ≡ None → names_differ files ≡ true → names_differ (files ++ named_file name bytes ∷ []) ≡ true
+names_differ-more files name bytes none differ =
+    ap names_differ (sym (written-no_place files name bytes none)) ∙ names_differ-written files name bytes differ
+
 pub ruleset place_laws = (content-place, content-no_place, written-place, written-no_place)
 
 pub ruleset write_laws = (content-written_same, content-written_other)
+
+pub ruleset name_laws = (names_differ-written, names_differ-more)

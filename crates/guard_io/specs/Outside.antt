@@ -1,5 +1,5 @@
 -- What is known of files and of a stream of bytes that lie outside the program.
-use Rattle.std.specs.Prelude.{◌≡◌, ◌≢◌, ◌≤◌, ◌+◌, ◌-◌, ◌^◌, ◌⊎◌, ℕ, Bool, List, ◌++◌, take, min, Option, Some, None, IsTrue, IsSome}
+use Rattle.std.specs.Prelude.{◌≡◌, ◌≢◌, ◌≤◌, ◌+◌, ◌-◌, ◌^◌, ◌⊎◌, ℕ, Bool, List, ◌++◌, take, min, Option, Some, None}
 
 -- A count of faults rose in a call: it is greater after it, or stands at its last value.
 abbrev pub Rose : ℕ → ℕ → Type 0

@@ -199,11 +199,14 @@ impl<W: Write> Sink for HostSink<W> {
 
         // The count does not rise but for a call that fails.
         ensures after { OnOk result (self.new.faults ≡ self.old.faults) }
-        ensures after_fault { result ≡ Err PutErr.Failed → self.new.faults ≡ raised self.old.faults }
+        ensures after_fault { result ≡ Err PutErr.Failed →
+            self.new.faults ≡ raised self.old.faults }
 
         // What is known of the writer's bytes grows by the bytes, or by a first part of them.
-        ensures whole { OnOk result (Appends (W.contents self.old.out) (W.contents self.new.out) bytes.now) }
-        ensures first_part { OnErr result (AppendsPart (W.contents self.old.out) (W.contents self.new.out) bytes.now) }
+        ensures whole { OnOk result
+            (Appends (W.contents self.old.out) (W.contents self.new.out) bytes.now) }
+        ensures first_part { OnErr result
+            (AppendsPart (W.contents self.old.out) (W.contents self.new.out) bytes.now) }
     {
         match write_whole(&mut self.out, bytes) {
             Ok(()) => Ok(()),

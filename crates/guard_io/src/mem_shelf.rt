@@ -53,6 +53,11 @@ impl Model for MemShelf {
       load_faults = s.load_faults;
       save_faults = s.save_faults;
     } };
+
+    ghost use Rattle.std.specs.Prelude.{IsTrue};
+    ghost use Rattle.guard_io.specs.Memory.{names_differ};
+
+    ghost invariant = { λ s. IsTrue (names_differ s.files.items) };
 }
 
 /// Whether no two of the files have one name.
@@ -93,7 +98,7 @@ fn copy_of(alloc: Global, bytes: &[u8], most: usize) -> Result<Vec<u8>, AllocErr
 }
 
 /// Makes the bytes the content of a file.
-#[tactic(auto, using(crate::proofs::Files::place_laws))]
+#[tactic(auto, using(crate::proofs::Files::place_laws, crate::proofs::Files::name_laws))]
 fn write_file(
     alloc: Global,
     files: &mut Vec<NamedFile>,
@@ -102,6 +107,7 @@ fn write_file(
 ) -> Result<(), AllocError>
     ensures ok { OnOk result (files.new.items ≡ written files.old.items name.now bytes.now) }
     ensures err { OnErr result (files.new.items ≡ files.old.items) }
+    ensures names { IsTrue (names_differ files.old.items) → IsTrue (names_differ files.new.items) }
 {
     let kept = Vec::from_slice(alloc, bytes)?;
     let file = NamedFile::new(Name::new(Vec::from_slice(alloc, name)?), kept);
@@ -159,15 +165,19 @@ impl Shelf for MemShelf {
     #[tactic(auto, using(crate::proofs::Files::place_laws, crate::proofs::Calls::call_laws))]
     fn load(&mut self, alloc: Global, name: &str, most: usize) -> Result<Vec<u8>, LoadErr>
         ensures most { IfOk result (λ bytes. vec_len bytes ≤ most) }
-        ensures bytes { IfOk result (λ bytes. IsLoaded (content self.old.files name.now) most bytes.items) }
+        ensures bytes { IfOk result
+            (λ bytes. IsLoaded (content self.old.files name.now) most bytes.items) }
         ensures files { SameFiles (λ _. true) content_of self.old self.new }
         ensures count { self.old.load_faults ≤ self.new.load_faults }
         ensures saves { self.new.save_faults ≡ self.old.save_faults }
-        ensures failed { result ≡ Err LoadErr.Failed → Rose self.old.load_faults self.new.load_faults }
+        ensures failed { result ≡ Err LoadErr.Failed →
+            Rose self.old.load_faults self.new.load_faults }
         ensures memory { result ≡ Err LoadErr.Memory → self.new.load_faults ≡ self.old.load_faults }
         ensures steady { IsTrue (is_steady_shelf self.old) → IsTrue (is_steady_shelf self.new) }
-        ensures present { IsTrue (is_steady_shelf self.old) → IsSome (content self.old.files name.now) → result ≢ Err LoadErr.Failed }
-        ensures calm { IsTrue (is_steady_shelf self.old) → IsSome (content self.old.files name.now) → self.new.load_faults ≡ self.old.load_faults }
+        ensures present { IsTrue (is_steady_shelf self.old) →
+            IsSome (content self.old.files name.now) → result ≢ Err LoadErr.Failed }
+        ensures calm { IsTrue (is_steady_shelf self.old) →
+            IsSome (content self.old.files name.now) → self.new.load_faults ≡ self.old.load_faults }
 
         // It fails exactly where the call is listed or there is no such file.
         ensures exactly { (result ≡ Err LoadErr.Failed) ↔ FailsToLoad self.old name.now }
@@ -195,18 +205,24 @@ impl Shelf for MemShelf {
     fn save(&mut self, name: &str, bytes: &[u8]) -> Result<(), SaveErr>
         ensures saved { OnOk result (content self.new.files name.now ≡ Some bytes.now) }
         ensures others { SameOthers (λ _. true) content_of name.now self.old self.new }
-        ensures part { result ≡ Err SaveErr.Failed → IsPartlySaved (content self.old.files name.now) bytes.now (content self.new.files name.now) }
+        ensures part { result ≡ Err SaveErr.Failed →
+            IsPartlySaved (content self.old.files name.now) bytes.now (content self.new.files name.now) }
         ensures count { self.old.save_faults ≤ self.new.save_faults }
         ensures loads { self.new.load_faults ≡ self.old.load_faults }
-        ensures failed { result ≡ Err SaveErr.Failed → Rose self.old.save_faults self.new.save_faults }
-        ensures memory { result ≡ Err SaveErr.Memory → SameFiles (λ _. true) content_of self.old self.new }
-        ensures memory_count { result ≡ Err SaveErr.Memory → self.new.save_faults ≡ self.old.save_faults }
+        ensures failed { result ≡ Err SaveErr.Failed →
+            Rose self.old.save_faults self.new.save_faults }
+        ensures memory { result ≡ Err SaveErr.Memory →
+            SameFiles (λ _. true) content_of self.old self.new }
+        ensures memory_count { result ≡ Err SaveErr.Memory →
+            self.new.save_faults ≡ self.old.save_faults }
         ensures steady { IsTrue (is_steady_shelf self.old) → IsTrue (is_steady_shelf self.new) }
         ensures calm { IsTrue (is_steady_shelf self.old) → result ≢ Err SaveErr.Failed }
-        ensures calm_count { IsTrue (is_steady_shelf self.old) → self.new.save_faults ≡ self.old.save_faults }
+        ensures calm_count { IsTrue (is_steady_shelf self.old) →
+            self.new.save_faults ≡ self.old.save_faults }
 
         // It fails exactly where the call is listed, and then the file is as it was.
-        ensures exactly { (result ≡ Err SaveErr.Failed) ↔ IsTrue (is_listed self.old.fail self.old.calls) }
+        ensures exactly { (result ≡ Err SaveErr.Failed) ↔
+            IsTrue (is_listed self.old.fail self.old.calls) }
         ensures after { OnOk result (self.new ≡ with_file self.old name.now bytes.now) }
         ensures after_fault { result ≡ Err SaveErr.Failed → self.new ≡ with_save_fault self.old }
         ensures after_want { result ≡ Err SaveErr.Memory → self.new ≡ with_call self.old }

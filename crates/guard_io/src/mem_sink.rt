@@ -65,7 +65,8 @@ impl Sink for MemSink {
     #[tactic(auto, using(crate::proofs::Calls::call_laws))]
     fn put(&mut self, bytes: &[u8]) -> Result<(), PutErr>
         ensures put { OnOk result (self.new.bytes ≡ self.old.bytes ++ bytes.now) }
-        ensures part { result ≡ Err PutErr.Failed → IsPartlyPut self.old.bytes bytes.now self.new.bytes }
+        ensures part { result ≡ Err PutErr.Failed →
+            IsPartlyPut self.old.bytes bytes.now self.new.bytes }
         ensures count { self.old.faults ≤ self.new.faults }
         ensures failed { result ≡ Err PutErr.Failed → Rose self.old.faults self.new.faults }
         ensures memory { result ≡ Err PutErr.Memory → self.new.bytes ≡ self.old.bytes }
@@ -75,7 +76,8 @@ impl Sink for MemSink {
         ensures calm_count { IsTrue (is_steady_sink self.old) → self.new.faults ≡ self.old.faults }
 
         // It fails exactly where the call is listed, and then nothing is appended.
-        ensures exactly { (result ≡ Err PutErr.Failed) ↔ IsTrue (is_listed self.old.fail self.old.calls) }
+        ensures exactly { (result ≡ Err PutErr.Failed) ↔
+            IsTrue (is_listed self.old.fail self.old.calls) }
         ensures after { OnOk result (self.new ≡ with_bytes self.old bytes.now) }
         ensures after_fault { result ≡ Err PutErr.Failed → self.new ≡ with_put_fault self.old }
         ensures after_want { result ≡ Err PutErr.Memory → self.new ≡ with_put self.old }
