@@ -63,7 +63,7 @@ hard_fits halves is =
       sections = All-cons SectionFits (text_section (code_bytes (doubled halves))) (map_section (rows_of halves) ∷ [])
           (record { kind = lit< tt; flags = lit< tt; align = lit< tt; entry = lit< tt; size = omega arith })
           (All-cons SectionFits (map_section (rows_of halves)) []
-              (record { kind = lit< tt; flags = lit< tt; align = lit< tt; entry = lit< tt; size = omega arith }) (λ k d l. absurd (omega arith)));
+          (record { kind = lit< tt; flags = lit< tt; align = lit< tt; entry = lit< tt; size = omega arith }) (λ k d l. absurd (omega arith)));
       symbols = All-cons SymbolFits code_symbol (function_symbol (length (code_bytes (doubled halves))) ∷ []) (record { value = lit< tt; size = lit< tt })
           (All-cons SymbolFits (function_symbol (length (code_bytes (doubled halves)))) [] (record { value = lit< tt; size = omega arith }) (λ k d l. absurd (omega arith)));
       relocs = λ k d l. absurd (omega arith);
@@ -114,6 +114,6 @@ pub promised : (p : Pair) (halves : List ℕ) → IsFirstCode halves → (before
 promised p halves is before after old new old_is new_is input output =
     picks p (λ picked. AreHardened picked before after 2) (none_promised before after)
     (one_hardened p before after 2 old new (first_object halves) (hardened_object halves) input output
-        (subst (λ (b : List ℕ). StandsFor b (first_object halves)) (sym old_is) (stands_plain halves is))
-        (subst (λ (b : List ℕ). StandsFor b (hardened_object halves)) (sym new_is) (stands_hardened halves is))
-        (first_hardened halves is))
+    (subst (λ (b : List ℕ). StandsFor b (first_object halves)) (sym old_is) (stands_plain halves is))
+    (subst (λ (b : List ℕ). StandsFor b (hardened_object halves)) (sym new_is) (stands_hardened halves is))
+    (first_hardened halves is))
