@@ -1,7 +1,6 @@
 //! The program: real files, the standard output, and the words that it was called with.
 #![tactic(auto)]
 
-use std::alloc::AllocError;
 use std::env;
 use std::io;
 use std::io::ErrorKind;
@@ -34,7 +33,7 @@ fn main(rt: HostRuntime) -> ExitCode {
         Err(_) => return ExitCode::from(NO_WORDS),
     };
     let mut shelf = HostShelf::new(&rt);
-    let mut out = HostSink::new(io::writer(&rt));
+    let mut out = HostSink::new(rt.stdout());
     let ending = guard_main(rt.alloc(), &words, &mut shelf, &mut out);
     ExitCode::from(ending.status())
 }
