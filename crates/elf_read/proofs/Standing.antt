@@ -5,13 +5,8 @@ use Rattle.std.proofs.lemmas.List.Elements.{All-cons}
 use Rattle.elf_model.specs.Objects.{ObjectParts, is_object}
 use Rattle.elf_model.specs.Canonical.{canonical}
 use Rattle.elf_model.specs.Files.{StandsFor}
-<<<<<<< HEAD
-use Rattle.elf_model.specs.Fits.{Fits, SectionFits, SymbolFits, RelocFits}
-use Rattle.elf_model.proofs.Stands.{stands}
-=======
 use Rattle.elf_model.specs.Fits.{Fits, SectionFits, SymbolFits}
-use Rattle.elf_model.proofs.Stands.{stands_bare}
->>>>>>> 8061d720d03766ed61ee647eabc95a4598b574a7
+use Rattle.elf_model.proofs.Stands.{stands}
 use Rattle.elf_read.specs.FirstForm.{text_section, code_symbol, function_symbol}
 use Rattle.elf_read.specs.FirstFile.{object_with, first_file}
 use Rattle.elf_read.proofs.Frame.{canonical-first, length-first}
