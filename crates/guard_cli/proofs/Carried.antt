@@ -64,31 +64,36 @@ saved_before name bytes old mid new same saved = record { others = others_before
 
 half_saved_before : (name bytes : List ℕ) (old mid new : Files) → Untouched old mid → IsHalfSaved name bytes mid new → IsHalfSaved name bytes old new
 half_saved_before name bytes old mid new same saved = record {
-    others = others_before name old mid new same saved.others;
-    part = λ told. subst (λ was. IsPartlySaved was bytes (new.content name)) (same.each name) (saved.part (told_before old mid same told))
-  }
+  others = others_before name old mid new same saved.others;
+  part = λ told. subst (λ was. IsPartlySaved was bytes (new.content name)) (same.each name) (saved.part (told_before old mid same told));
+}
 
 untouched_before : (old mid new : Files) → Untouched old mid → Untouched mid new → Untouched old new
 untouched_before old mid new first second = record {
-    told = second.told ∙ first.told; each = λ name. second.each name ∙ first.each name; saves = second.saves ∙ first.saves
-  }
+  told = second.told ∙ first.told;
+  each = λ name. second.each name ∙ first.each name;
+  saves = second.saves ∙ first.saves;
+}
 
 pub ends_before : (p : Pair) (old mid new : Files) (screen after : Screen) (ending : Ending) → Untouched old mid → ending ≢ ReadFault → EndsAs p mid new screen after ending → EndsAs p old new screen after ending
 ends_before p old mid new screen after Done same no_fault (halves, done) =
     (halves, record { read = read_before p old mid halves same done.read; saved = saved_before p.output (output_of halves) old mid new same done.saved; said = done.said })
 ends_before p old mid new screen after (Refused spot) same no_fault refused = record {
-    cause = (λ told. let found = refused.cause (told_before old mid same told) in (found.0, sym (same.each p.input) ∙ found.1, found.2));
-    untouched = untouched_before old mid new same refused.untouched;
-    said = refused.said
-  }
+  cause = (λ told. let found = refused.cause (told_before old mid same told) in (found.0, sym (same.each p.input) ∙ found.1, found.2));
+  untouched = untouched_before old mid new same refused.untouched;
+  said = refused.said;
+}
 ends_before p old mid new screen after Usage same no_fault e = absurd e
 ends_before p old mid new screen after ReadFault same no_fault e = absurd (no_fault refl)
-ends_before p old mid new screen after WriteFault same no_fault (halves, unsaved) = (halves, record {
+ends_before p old mid new screen after WriteFault same no_fault (halves, unsaved) = (
+  halves,
+  record {
     read = read_before p old mid halves same unsaved.read;
     cause = subst (λ count. Rose count new.save_faults) same.saves unsaved.cause;
     saved = half_saved_before p.output (output_of halves) old mid new same unsaved.saved;
-    said = unsaved.said
-  })
+    said = unsaved.said;
+  },
+)
 ends_before p old mid new screen after PrintFault same no_fault (halves, unsaid) =
     (halves, record { read = read_before p old mid halves same unsaid.read; saved = saved_before p.output (output_of halves) old mid new same unsaid.saved; cause = unsaid.cause })
 ends_before p old mid new screen after NoMemory same no_fault (inl untouched, said) = (inl (untouched_before old mid new same untouched), said)

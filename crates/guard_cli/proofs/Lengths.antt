@@ -10,11 +10,11 @@ use Rattle.guard_cli.proofs.Written.{length-code_bytes}
 
 abbrev plain : List ℕ → ObjectParts
 plain code = record {
-    sections = text_section code ∷ [];
-    symbols = code_symbol ∷ function_symbol (length code) ∷ [];
-    relocs = [];
-    flags = 0x05000000
-  }
+  sections = text_section code ∷ [];
+  symbols = code_symbol ∷ function_symbol (length code) ∷ [];
+  relocs = [];
+  flags = 0x05000000;
+}
 
 -- where the headers stand
 table_bound : (code : List ℕ) → table_place (plain code) ≤ length code + 145
@@ -38,7 +38,7 @@ length-canonical code =
     let table = table_place o in
     let end = laid_end 52 files in
     five_parts (file_header table 5 4 0x05000000) (laid 52 files) (replicate (table - end) 0) (replicate 40 0) (header_rows (section_names o) 52 files)
-        (length code) table (table - end) refl (length-laid code) (length-replicate (table - end) 0) (padding_bound table end) (table_bound code) refl refl
+    (length code) table (table - end) refl (length-laid code) (length-replicate (table - end) 0) (padding_bound table end) (table_bound code) refl refl
 
 pub first_is_short : (halves : List ℕ) → IsFirstCode halves → length (canonical (first_object halves)) ≤ file_limit
 first_is_short halves first =

@@ -17,11 +17,11 @@ use Rattle.guard_cli.specs.HardenedFile.{symbols_at, head, symbol_words, names, 
 
 abbrev object_with : List ℕ → List MapRow → ObjectParts
 object_with code rows = record {
-    sections = text_section code ∷ map_section rows ∷ [];
-    symbols = code_symbol ∷ function_symbol (length code) ∷ [];
-    relocs = [];
-    flags = 0x05000000
-  }
+  sections = text_section code ∷ map_section rows ∷ [];
+  symbols = code_symbol ∷ function_symbol (length code) ∷ [];
+  relocs = [];
+  flags = 0x05000000;
+}
 
 round_up-one : (at : ℕ) → round_up at 1 ≡ at
 round_up-one at = omega arith
@@ -120,7 +120,7 @@ written halves code n a b c d e f code_is n_is none h1 h2 h3 h4 h5 =
     let twice : doubled_bytes code ≡ code_bytes (doubled halves) = ap doubled_bytes code_is ∙ doubled_bytes_are halves in
     let h = h2 ∙ ap (λ x. b ++ x) twice in
     joined head (λ m. flat_map row_bytes (rows_from 0 m)) tables (λ m. flat_map word (header_words m)) (code_bytes (doubled halves)) n (length halves) a b c d e f
-        same none h1 h h3 h4 h5
+    same none h1 h h3 h4 h5
     ∙ sym (canonical-hardened halves)
 
 -- what is counted of n instructions
