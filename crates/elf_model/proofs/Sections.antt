@@ -1,11 +1,12 @@
 -- What `is_section` says of a section, fact by fact.
-use Rattle.std.proofs.Common.{◌≡◌, ◌≢◌, ◌≤◌, ℕ, Bool, true, false, cond, not, ◌&&◌, List, [], length, sym, ap, ◌∙◌, subst, inl, inr, arith}
+use Rattle.std.proofs.Common.{◌≡◌, ◌≢◌, ◌≤◌, ℕ, Bool, true, false, cond, not, ◌&&◌, ◌||◌, List, [], length, sym, ap, ◌∙◌, subst, inl, inr, arith}
 use Rattle.std.specs.Prelude.{◌==◌, nat_le, if◌then◌else◌}
 use Rattle.std.proofs.lemmas.List.{nil_from_length}
 use Rattle.std.proofs.lemmas.Bool.{and_parts, cases_eq, false≢true, not-true, leb-true, eqb-true, ne_eqb, eq-eqb}
 use Rattle.elf_model.specs.declared.objects.Section.{Section}
 use Rattle.elf_model.specs.Constants.{nobits, symtab, strtab, rel, arm_exidx}
 use Rattle.elf_model.specs.Objects.{is_section, is_name, is_dropped_name, is_alignment, is_kept_kind, is_alloc, is_writable, is_exec}
+use Rattle.elf_model.specs.Files.{is_table}
 use Rattle.elf_model.proofs.Strings.{has_no_nul}
 
 pub record NameFacts (n : List ℕ) : Type 0 where
@@ -63,3 +64,11 @@ full_size s f k = sym (f.long ∙ ap (λ (t : Bool). if t then 0 else s.size) (n
 
 pub no_bytes : (s : Section) → SectionFacts s → s.kind ≡ nobits → s.bytes ≡ []
 no_bytes s f k = nil_from_length s.bytes (f.long ∙ ap (λ (t : Bool). if t then 0 else s.size) (eq-eqb s.kind nobits k))
+
+-- a section of an object is no table
+pub no_table : (s : Section) → SectionFacts s → is_table s.kind ≡ false
+no_table s f =
+    let a = ne_eqb s.kind symtab (not_symtab s.kind s.flags f.kept) in
+    let b = ne_eqb s.kind strtab (not_strtab s.kind s.flags f.kept) in
+    let c = ne_eqb s.kind rel (not_rel s.kind s.flags f.kept) in
+    ap (λ (t : Bool). t || (s.kind == strtab) || (s.kind == rel)) a ∙ ap (λ (t : Bool). t || (s.kind == rel)) b ∙ c

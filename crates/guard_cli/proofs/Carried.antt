@@ -6,8 +6,9 @@ use Rattle.elf_model.specs.declared.refusals.Spot.{Spot}
 use Rattle.guard_cli.specs.declared.endings.Ending.{Ending}
 use Rattle.guard_cli.specs.declared.endings.Ending.TheVariants.{Done, Refused, Usage, ReadFault, WriteFault, PrintFault, NoMemory}
 use Rattle.guard_cli.specs.Words.{Pair}
-use Rattle.guard_cli.specs.Runs.{Files, Screen, SameBut, Untouched, IsSaved, IsHalfSaved, IsInputRefusal, file_limit, IsRead, EndsAs, output_of, report_of}
+use Rattle.guard_cli.specs.Runs.{IsPut, Files, Screen, SameBut, Untouched, IsSaved, IsHalfSaved, IsInputRefusal, file_limit, IsRead, EndsAs, output_of, report_of}
 use Rattle.guard_cli.specs.Outcomes.{IsDecided, ReportEndsAs}
+use Rattle.guard_cli.proofs.Promised.{promised}
 
 -- A file of which less was loaded than might have been was loaded whole.
 pub loaded_whole : (content : Option (List ℕ)) (most : ℕ) (bytes : List ℕ) → IsLoaded content most bytes → length bytes < most → content ≡ Some bytes
@@ -29,10 +30,21 @@ refused_whole (Some file) most bytes spot h large (inr short) =
     let low = short.0 in
     (bytes, loaded_whole (Some file) most bytes h (omega arith), inr short)
 
+-- What was read and saved is hardened, so it is done once it is said.
+done_of : (p : Pair) (halves : List ℕ) (old new : Files) (screen after : Screen) → IsRead p old halves → IsSaved p.output (output_of halves) old new
+    → IsPut (report_of p halves) screen after → IsDone p old new screen after halves
+done_of p halves old new screen after read saved said = record {
+  read = read;
+  saved = saved;
+  said = said;
+  hardened = λ told picked pick. promised p halves read.code old.content new.content (canonical (first_object halves)) (output_of halves) refl refl
+      (read.file told) (saved.whole told) picked pick;
+}
+
 -- how a command ends that has saved the output
 pub ends_saved : (p : Pair) (halves : List ℕ) (old new : Files) (screen after : Screen) (ending : Ending) → IsRead p old halves → IsSaved p.output (output_of halves) old new
     → ReportEndsAs (report_of p halves) screen after ending → EndsAs p old new screen after ending
-ends_saved p halves old new screen after Done read saved said = (halves, record { read = read; saved = saved; said = said })
+ends_saved p halves old new screen after Done read saved said = (halves, done_of p halves old new screen after read saved said)
 ends_saved p halves old new screen after PrintFault read saved said = (halves, record { read = read; saved = saved; cause = said })
 ends_saved p halves old new screen after NoMemory read saved said = (inr (halves, read, saved), said)
 ends_saved p halves old new screen after (Refused spot) read saved said = absurd said
@@ -75,7 +87,7 @@ untouched_before old mid new first second = record {
 
 pub ends_before : (p : Pair) (old mid new : Files) (screen after : Screen) (ending : Ending) → Untouched old mid → ending ≢ ReadFault → EndsAs p mid new screen after ending → EndsAs p old new screen after ending
 ends_before p old mid new screen after Done same no_fault (halves, done) =
-    (halves, record { read = read_before p old mid halves same done.read; saved = saved_before p.output (output_of halves) old mid new same done.saved; said = done.said })
+    (halves, done_of p halves old new screen after (read_before p old mid halves same done.read) (saved_before p.output (output_of halves) old mid new same done.saved) done.said)
 ends_before p old mid new screen after (Refused spot) same no_fault refused = record {
   cause = (λ told. let found = refused.cause (told_before old mid same told) in (found.0, sym (same.each p.input) ∙ found.1, found.2));
   untouched = untouched_before old mid new same refused.untouched;

@@ -15,7 +15,7 @@ use Rattle.guard_cli.specs.Runs.{report_of}
 use Rattle.guard_cli.specs.Outcomes.{tally_with}
 use Rattle.guard_cli.specs.HardenedFile.{symbols_at, head, symbol_words, names, header_words, tables, doubled_bytes}
 
-abbrev object_with : List ℕ → List MapRow → ObjectParts
+abbrev pub object_with : List ℕ → List MapRow → ObjectParts
 object_with code rows = record {
   sections = text_section code ∷ map_section rows ∷ [];
   symbols = code_symbol ∷ function_symbol (length code) ∷ [];
@@ -62,11 +62,11 @@ canonical-with n code rows c r b =
 length-half : (h : ℕ) → length (half h) ≡ 2
 length-half h = refl
 
-length-rows_from : (i n : ℕ) → length (rows_from i n) ≡ n
+pub length-rows_from : (i n : ℕ) → length (rows_from i n) ≡ n
 length-rows_from i zero = refl
 length-rows_from i (suc n) = ap (λ k. suc k) (length-rows_from (i + 1) n)
 
-length-row_bytes : (rows : List MapRow) → length (flat_map row_bytes rows) ≡ 16 * length rows
+pub length-row_bytes : (rows : List MapRow) → length (flat_map row_bytes rows) ≡ 16 * length rows
 length-row_bytes [] = refl
 length-row_bytes (r ∷ rows) = let h = length-row_bytes rows in omega arith
 
@@ -74,7 +74,7 @@ pub length-code_bytes : (halves : List ℕ) → length (code_bytes halves) ≡ 2
 length-code_bytes [] = refl
 length-code_bytes (h ∷ halves) = let e = length-code_bytes halves in omega arith
 
-length-doubled : (halves : List ℕ) → length (doubled halves) ≡ 2 * length halves
+pub length-doubled : (halves : List ℕ) → length (doubled halves) ≡ 2 * length halves
 length-doubled [] = refl
 length-doubled (h ∷ halves) = let e = length-doubled halves in omega arith
 
