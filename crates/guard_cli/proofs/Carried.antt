@@ -3,10 +3,12 @@ use Rattle.std.proofs.Common.{◌≡◌, ◌≢◌, ◌<◌, ◌≤◌, inl, inr
 use Rattle.std.proofs.lemmas.List.{length-take, take_all}
 use Rattle.guard_io.specs.Outside.{Rose, IsLoaded, IsPartlySaved}
 use Rattle.elf_model.specs.declared.refusals.Spot.{Spot}
+use Rattle.elf_model.specs.Canonical.{canonical}
+use Rattle.elf_read.specs.FirstForm.{first_object}
 use Rattle.guard_cli.specs.declared.endings.Ending.{Ending}
 use Rattle.guard_cli.specs.declared.endings.Ending.TheVariants.{Done, Refused, Usage, ReadFault, WriteFault, PrintFault, NoMemory}
 use Rattle.guard_cli.specs.Words.{Pair}
-use Rattle.guard_cli.specs.Runs.{IsPut, Files, Screen, SameBut, Untouched, IsSaved, IsHalfSaved, IsInputRefusal, file_limit, IsRead, EndsAs, output_of, report_of}
+use Rattle.guard_cli.specs.Runs.{IsDone, IsPut, Files, Screen, SameBut, Untouched, IsSaved, IsHalfSaved, IsInputRefusal, file_limit, IsRead, EndsAs, output_of, report_of}
 use Rattle.guard_cli.specs.Outcomes.{IsDecided, ReportEndsAs}
 use Rattle.guard_cli.proofs.Promised.{promised}
 
