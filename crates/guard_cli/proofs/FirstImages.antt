@@ -9,8 +9,10 @@ use Rattle.elf_model.specs.Canonical.{round_up}
 use Rattle.elf_model.specs.Maps.{map_section}
 use Rattle.elf_read.specs.FirstForm.{code_bytes, text_section, code_symbol, function_symbol, first_object}
 use Rattle.guard_cli.specs.Output.{doubled, rows_of, hardened_object}
-use Rattle.guard_cli.specs.Marks.{bare}
-use Rattle.guard_cli.specs.Images.{Placement, IsPlacement, Part, Image, IsImage, is_data, chosen, placed, bytes_from, code_parts, data_parts, code_bytes_of, data_bytes_of, entries_of, NamedEntry, entry_of, even}
+use Rattle.mark_word.specs.Words.{bare}
+use Rattle.thumb_table.specs.Images.{IsPlacement, IsImage, is_data, chosen, placed, bytes_from, code_parts, data_parts, code_bytes_of, data_bytes_of, entries_of, entry_of, even}
+use Rattle.thumb_table.specs.Parts.{Part, Image, NamedEntry}
+use Rattle.thumb_table.specs.declared.placements.Placement.{Placement}
 use Rattle.guard_cli.proofs.Standing.{length-code_bytes, length-doubled}
 
 pub length_doubled_bytes : (halves : List ℕ) → length (code_bytes (doubled halves)) ≡ 4 * length halves

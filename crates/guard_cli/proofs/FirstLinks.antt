@@ -11,8 +11,10 @@ use Rattle.elf_model.specs.Canonical.{round_up}
 use Rattle.elf_model.specs.Maps.{map_section}
 use Rattle.elf_read.specs.FirstForm.{IsFirstCode, code_bytes, first_object, code_symbol, function_symbol}
 use Rattle.guard_cli.specs.Output.{doubled, rows_of, hardened_object}
-use Rattle.guard_cli.specs.Marks.{bare}
-use Rattle.guard_cli.specs.Images.{Placement, IsPlacement, Part, Defined, IsDataStart, IsStop, CanLink, Image, IsImage, code_bytes_of, is_function, even, address_of, is_mapping_of}
+use Rattle.mark_word.specs.Words.{bare}
+use Rattle.thumb_table.specs.Images.{IsPlacement, Defined, IsDataStart, IsStop, CanLink, IsImage, code_bytes_of, is_function, even, address_of, is_mapping_of}
+use Rattle.thumb_table.specs.Parts.{Part, Image}
+use Rattle.thumb_table.specs.declared.placements.Placement.{Placement}
 use Rattle.guard_cli.proofs.FirstImages.{lone_object, AreIdle, map_idle, text_part, text_parts, lone_parts, lone_code_bytes, lone_data_bytes, lone_entries, entry_at, first_formed, even_of_entry, length_doubled_bytes}
 
 pub only_one : {X : Type 0} (x y : X) → Contains (x ∷ []) y → y ≡ x

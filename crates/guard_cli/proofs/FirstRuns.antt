@@ -6,12 +6,19 @@ use Rattle.std.proofs.lemmas.List.{set-set, map-append, length-map, length-appen
 use Rattle.std.proofs.lemmas.List.Elements.{All-nil, All-cons, All-head, All-tail, All-weaker, All-push}
 use Rattle.std.proofs.lemmas.Grind.{flat_map-append}
 use Rattle.elf_read.specs.FirstForm.{IsMove, IsFirstCode, return_half, code_bytes}
-use Rattle.guard_cli.specs.Marks.{Word, Plain, Return, plain}
-use Rattle.guard_cli.specs.Formulas.{expand_imm}
-use Rattle.guard_cli.specs.Instructions.{Instr, Move, Mov, Imm, Jump, Outside, decode}
-use Rattle.guard_cli.specs.States.{CodeBytes, Core, State, Change, Site, Jumps, at, read, change, applied, unchanged, jump_to}
-use Rattle.guard_cli.specs.Steps.{Fetched, place_in_block, takes_effect, goes_on, step_of}
-use Rattle.guard_cli.specs.Schedules.{run, exit, Returns}
+use Rattle.mark_word.specs.Words.{Word, plain}
+use Rattle.mark_word.specs.declared.marks.Mark.TheVariants.{Plain, Return}
+use Rattle.mark_word.specs.Formulas.{expand_imm}
+use Rattle.thumb_instr.specs.Rows.{decode}
+use Rattle.thumb_instr.specs.declared.instructions.Instr.{Instr}
+use Rattle.thumb_instr.specs.declared.instructions.Instr.TheVariants.{Move, Jump}
+use Rattle.thumb_instr.specs.declared.operands.MoveOp.TheVariants.{Mov}
+use Rattle.thumb_instr.specs.declared.operands.Operand.TheVariants.{Imm}
+use Rattle.thumb_instr.specs.declared.refusals.ItPlace.TheVariants.{Outside}
+use Rattle.thumb_table.specs.Parts.{CodeBytes}
+use Rattle.thumb_table.specs.States.{Core, State, Change, Site, Jumps, at, read, change, applied, unchanged, jump_to}
+use Rattle.thumb_table.specs.Steps.{Fetched, place_in_block, takes_effect, goes_on, step_of}
+use Rattle.thumb_table.specs.Schedules.{run, exit, Returns}
 use Rattle.guard_cli.specs.Output.{doubled}
 use Rattle.guard_cli.proofs.Groups.{Legal, Leaps, JumpGroup, Comes, it_stays, steps_to, first_step, run_on, comes_on, returns_of, jump_group}
 use Rattle.guard_cli.proofs.Sequences.{Stands, Chain, Settles, stands_split, sequence, ends_once}
