@@ -1,14 +1,14 @@
 -- What a step knows, carried to the whole command.
-use Rattle.std.proofs.Common.{◌≡◌, ◌≢◌, ◌<◌, ◌≤◌, ◌⊎◌, inl, inr, ℕ, ◌+◌, List, [], ◌∷◌, ◌++◌, length, take, Option, Some, None, IsTrue, IsSome, refl, sym, ap, ◌∙◌, subst, arith}
+use Rattle.std.proofs.Common.{◌≡◌, ◌≢◌, ◌<◌, ◌≤◌, inl, inr, ℕ, List, [], length, Option, Some, None, IsTrue, refl, sym, ap, ◌∙◌, subst, arith}
 use Rattle.std.proofs.lemmas.List.{length-take, take_all}
 use Rattle.guard_io.specs.Outside.{Rose, IsLoaded, IsPartlySaved}
 use Rattle.elf_model.specs.declared.refusals.Spot.{Spot}
 use Rattle.elf_model.specs.Canonical.{canonical}
-use Rattle.elf_read.specs.FirstForm.{IsFirstCode, first_object}
+use Rattle.elf_read.specs.FirstForm.{first_object}
 use Rattle.guard_cli.specs.declared.endings.Ending.{Ending}
 use Rattle.guard_cli.specs.declared.endings.Ending.TheVariants.{Done, Refused, Usage, ReadFault, WriteFault, PrintFault, NoMemory}
 use Rattle.guard_cli.specs.Words.{Pair}
-use Rattle.guard_cli.specs.Runs.{Files, Screen, SameBut, Untouched, IsSaved, IsHalfSaved, IsPut, IsCutOff, IsToldOf, IsInputRefusal, file_limit, IsRead, IsDone, IsRefusedFor, IsUnread, IsUnsaved, IsUnsaid, IsUntouchedOrSaved, EndsAs, output_of, report_of}
+use Rattle.guard_cli.specs.Runs.{Files, Screen, SameBut, Untouched, IsSaved, IsHalfSaved, IsPut, IsInputRefusal, file_limit, IsRead, IsDone, EndsAs, output_of, report_of}
 use Rattle.guard_cli.specs.Outcomes.{IsDecided, ReportEndsAs}
 use Rattle.guard_cli.proofs.Promised.{promised}
 

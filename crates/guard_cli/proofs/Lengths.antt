@@ -1,9 +1,8 @@
 -- A file of the first form is short, and begins as the format wants it.
-use Rattle.std.proofs.Common.{◌≡◌, ℕ, ◌+◌, ◌-◌, ◌*◌, ◌/◌, ◌≤◌, List, [], ◌∷◌, ◌++◌, length, replicate, take, refl, sym, ap, ◌∙◌, arith}
+use Rattle.std.proofs.Common.{◌≡◌, ℕ, ◌+◌, ◌-◌, ◌*◌, ◌≤◌, List, [], ◌∷◌, ◌++◌, length, replicate, refl, arith}
 use Rattle.std.proofs.lemmas.List.{length-append, length-replicate}
-use Rattle.std.specs.List.{flat_map}
 use Rattle.elf_model.specs.Objects.{ObjectParts}
-use Rattle.elf_model.specs.Canonical.{canonical, file_header, laid, laid_end, file_sections, section_names, header_rows, table_place, round_up, shstrtab_header}
+use Rattle.elf_model.specs.Canonical.{canonical, file_header, laid, laid_end, file_sections, section_names, header_rows, table_place}
 use Rattle.elf_read.specs.FirstForm.{IsFirstCode, IsElf, first_object, code_bytes, text_section, code_symbol, function_symbol}
 use Rattle.guard_cli.specs.Runs.{file_limit}
 use Rattle.guard_cli.proofs.Written.{length-code_bytes}

@@ -1,29 +1,24 @@
 -- What is promised of one pair of the first form.
-use Rattle.std.proofs.Common.{◌≡◌, ◌≢◌, ◌≤◌, ◌<◌, ℕ, zero, suc, ◌+◌, ◌*◌, ◌-◌, ◌^◌, Bool, true, false, List, [], ◌∷◌, ◌++◌, length, Option, Some, None, refl, sym, ap, subst, ◌∙◌, arith, lit<, map}
-use Rattle.std.specs.Prelude.{All, IsTrue, slice_get}
+use Rattle.std.proofs.Common.{◌≡◌, ◌≢◌, ◌<◌, ℕ, zero, suc, ◌+◌, ◌*◌, ◌^◌, true, List, [], ◌∷◌, ◌++◌, length, Option, Some, None, refl, sym, ap, subst, ◌∙◌, arith, lit<}
 use Rattle.std.specs.List.{AllPairs}
 use Rattle.std.proofs.lemmas.Bool.Decides.{nat_tests}
 use Rattle.std.proofs.lemmas.List.Elements.{All-cons}
-use Rattle.elf_model.specs.declared.objects.Section.{Section}
-use Rattle.elf_model.specs.declared.objects.Symbol.{Symbol}
 use Rattle.elf_model.specs.declared.objects.MapRow.{MapRow}
 use Rattle.elf_model.specs.Objects.{ObjectParts, is_object}
 use Rattle.elf_model.specs.Canonical.{canonical}
 use Rattle.elf_model.specs.Files.{StandsFor}
 use Rattle.elf_model.specs.Maps.{map_section}
-use Rattle.elf_model.specs.Fits.{Fits, SectionFits, SymbolFits, RelocFits}
+use Rattle.elf_model.specs.Fits.{Fits, SectionFits, SymbolFits}
 use Rattle.elf_model.proofs.Stands.{stands}
 use Rattle.elf_read.specs.FirstForm.{IsFirstCode, first_object, code_bytes, text_section, code_symbol, function_symbol}
 use Rattle.elf_read.proofs.Standing.{stands_first}
 use Rattle.guard_cli.specs.Words.{Pair}
 use Rattle.guard_cli.specs.Output.{hardened_object, doubled, rows_of}
 use Rattle.guard_cli.specs.Hardened.{Hardened}
-use Rattle.guard_cli.specs.Promise.{AreObjects, ArePlaced, IsPick, AreHardened}
+use Rattle.guard_cli.specs.Promise.{ArePlaced, IsPick, AreHardened}
 use Rattle.guard_cli.proofs.FirstHardened.{first_hardened, none_hardened}
 use Rattle.std.specs.List.{flat_map}
-use Rattle.std.proofs.lemmas.Bool.{eq-eqb}
 use Rattle.std.proofs.lemmas.List.{length-append}
-use Rattle.elf_model.specs.declared.objects.Reloc.{Reloc}
 use Rattle.elf_model.specs.Fields.{word}
 use Rattle.elf_model.specs.Maps.{row_bytes}
 use Rattle.guard_cli.specs.HardenedFile.{head, tables, header_words}

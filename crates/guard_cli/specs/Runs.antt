@@ -1,14 +1,14 @@
 -- What comes of a command: each ending, with its cause and with what it leaves.
-use Rattle.std.specs.Prelude.{◌≡◌, ◌≢◌, ◌<◌, ◌≤◌, ◌⊎◌, ℕ, ◌*◌, Bool, List, [], ◌∷◌, ◌++◌, length, Option, Some, None, IsTrue, IsSome}
+use Rattle.std.specs.Prelude.{◌≡◌, ◌≢◌, ◌<◌, ◌≤◌, ◌⊎◌, ℕ, ◌*◌, Bool, List, [], ◌∷◌, ◌++◌, length, Option, Some, None, IsTrue}
 use Rattle.guard_io.specs.Outside.{Rose, IsPartlySaved, IsPartlyPut}
 use Rattle.elf_model.specs.declared.refusals.Refusal.TheVariants.{TooLong, NotYet}
 use Rattle.elf_model.specs.declared.refusals.Spot.{Spot}
 use Rattle.elf_model.specs.Canonical.{canonical}
-use Rattle.elf_read.specs.FirstForm.{IsFirstCode, IsRefusalOf, first_object, code_bytes, at_start}
+use Rattle.elf_read.specs.FirstForm.{IsFirstCode, IsRefusalOf, first_object, at_start}
 use Rattle.guard_cli.specs.declared.endings.Ending.{Ending}
 use Rattle.guard_cli.specs.declared.endings.Ending.TheVariants.{Done, Refused, Usage, ReadFault, WriteFault, PrintFault, NoMemory}
-use Rattle.guard_cli.specs.Words.{Pair, IsHarden, IsCommand}
-use Rattle.guard_cli.specs.Output.{doubled, hardened_object}
+use Rattle.guard_cli.specs.Words.{Pair}
+use Rattle.guard_cli.specs.Output.{hardened_object}
 use Rattle.guard_cli.specs.Promise.{IsPick, AreHardened}
 use Rattle.guard_cli.specs.Texts.{Tally, greatest_factor, report, usage_line, no_memory_line, read_fault_line, write_fault_line, refused_line}
 

@@ -5,6 +5,8 @@ mod commands;
 mod decisions;
 mod endings;
 mod form;
+#[cfg(test)]
+mod tests;
 mod texts;
 mod words;
 

@@ -1,14 +1,12 @@
 //! The program: real files, the standard output, and the words that it was called with.
 #![tactic(auto)]
 
-use std::env;
-use std::io;
+use guard_cli::guard_main;
+use guard_io::{HostShelf, HostSink};
 use std::io::ErrorKind;
 use std::process::ExitCode;
 use std::rt::Runtime;
-
-use guard_cli::guard_main;
-use guard_io::{HostShelf, HostSink};
+use std::{env, io};
 
 /// The status where the system does not give the words.
 const NO_WORDS: u8 = 7;

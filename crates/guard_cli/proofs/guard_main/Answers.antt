@@ -1,4 +1,4 @@
-use Rattle.std.proofs.Common.{List, [], ◌∷◌, ap, map, string_bytes, subst}
+use Rattle.std.proofs.Common.{[], ◌∷◌, map, string_bytes, subst}
 use Rattle.guard_cli.specs.Words.{Pair}
 use Rattle.guard_cli.specs.Runs.{files_seen, screen_seen, EndsAs}
 use Rattle.guard_cli.proofs.Pairs.{same_harden, only_pair}

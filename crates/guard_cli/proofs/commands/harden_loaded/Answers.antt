@@ -1,5 +1,5 @@
 use Rattle.std.proofs.Common.{refl, subst, arith}
-use Rattle.guard_cli.specs.Runs.{files_seen, screen_seen}
+use Rattle.guard_cli.specs.Runs.{files_seen}
 use Rattle.guard_cli.specs.Texts.{refused_line}
 use Rattle.guard_cli.specs.Words.{Pair}
 use Rattle.guard_cli.specs.Outcomes.{IsTurnedDown}

@@ -1,5 +1,4 @@
 use Rattle.guard_cli.specs.Runs.{files_seen, screen_seen}
-use Rattle.guard_cli.specs.Words.{Pair}
 use Rattle.guard_cli.proofs.Carried.{ends_before}
 use Rattle.guard_cli.proofs.commands.harden_pair.Goals as goal
 

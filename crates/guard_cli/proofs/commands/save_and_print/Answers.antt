@@ -1,5 +1,5 @@
-use Rattle.std.proofs.Common.{List, ℕ, Err, subst, sym, ap, ◌∙◌}
-use Rattle.guard_cli.specs.Runs.{Files, Screen, files_seen, screen_seen, IsSaved, IsHalfSaved, IsToldOf, report_of}
+use Rattle.std.proofs.Common.{Err, subst, sym, ap, ◌∙◌}
+use Rattle.guard_cli.specs.Runs.{files_seen, screen_seen, IsSaved, IsHalfSaved, IsToldOf}
 use Rattle.guard_cli.specs.Texts.{write_fault_line}
 use Rattle.guard_cli.specs.Outcomes.{ReportEndsAs}
 use Rattle.guard_cli.proofs.Carried.{ends_saved, saved_as, half_saved_as, report_as}

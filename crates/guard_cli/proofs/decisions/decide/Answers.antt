@@ -1,4 +1,4 @@
-use Rattle.std.proofs.Common.{ap, ◌∙◌, ◌≤◌, length, arith}
+use Rattle.std.proofs.Common.{ap, ◌∙◌, arith}
 use Rattle.elf_model.specs.Canonical.{canonical}
 use Rattle.guard_cli.proofs.decisions.decide.Goals as goal
 

@@ -1,5 +1,4 @@
-use Rattle.std.proofs.Common.{ℕ, ◌*◌, ◌≡◌, length, map, string_bytes, arith}
-use Rattle.guard_cli.specs.Words.{IsCommand}
+use Rattle.std.proofs.Common.{string_bytes, arith}
 use Rattle.guard_cli.proofs.Pairs.{texts_are, texts_of}
 use Rattle.guard_cli.proofs.words.are_pairs.Goals as goal
 use Rattle.guard_cli.proofs.words.are_pairs.Goals.{then-names-ne0-via-then-names-ne0, then-names-ne0-via-else-names-ne0+then-pairs-eq0, then-names-ne0-via-else-names-ne0+else-pairs-eq0+then-pairs-gt16}
