@@ -99,13 +99,13 @@ run_off : seen (run plain_code (skipping (0 ∷ 1 ∷ [])) 3 0 begun) ≡ None
 run_off = refl
 
 -- rows of the table
-decode_move : decode Outside 0x2105 0 ≡ Ok (Move Mov true 1 (Imm 5))
+decode_move : decode Outside 0x2105 0 ≡ Ok (Move (record { op = Mov; s = true; d = 1; x = Imm 5 }))
 decode_move = refl
 
-decode_move_in_block : decode Inside 0x2105 0 ≡ Ok (Move Mov false 1 (Imm 5))
+decode_move_in_block : decode Inside 0x2105 0 ≡ Ok (Move (record { op = Mov; s = false; d = 1; x = Imm 5 }))
 decode_move_in_block = refl
 
-decode_return : decode Last 0x4770 0 ≡ Ok (Jump 14)
+decode_return : decode Last 0x4770 0 ≡ Ok (Jump (record { m = 14 }))
 decode_return = refl
 
 decode_jump_to_pc : decode Inside 0x4778 0 ≡ Err PcOperand

@@ -3,9 +3,8 @@
 ghost use Rattle.std.specs.Prelude.{◌≡◌, IsTrue};
 ghost use Rattle.mark_word.specs.Words.{bare, is_cell};
 
-use std::marker::Model;
-
 use crate::{Mark, Word};
+use std::marker::Model;
 
 /// Byte number `index` of a word with this mark.
 #[derive(Clone, Copy, Debug, PartialEq, Eq)]

@@ -3,9 +3,8 @@
 ghost use Rattle.std.specs.Prelude.{◌≡◌, ◌%◌, ◌^◌, IsTrue};
 ghost use Rattle.mark_word.specs.Words.{plain, is_word};
 
-use std::marker::Model;
-
 use crate::Mark;
+use std::marker::Model;
 
 /// A word of 32 bits and its mark. An entry and a return address are the word's own bits; of a low half
 /// the bits are the address's low half.

@@ -3,9 +3,8 @@
 ghost use Rattle.std.specs.Prelude.{◌≡◌, Some, None, if◌then◌else◌, true};
 ghost use Rattle.thumb_instr.specs.Operands.{is_operand};
 
-use std::marker::Model;
-
 use crate::{MoveOp, Operand, Reg};
+use std::marker::Model;
 
 /// MOV and MVN. `s` says that flags are set.
 #[derive(Clone, Copy, Debug, PartialEq, Eq)]
