@@ -11,7 +11,9 @@ use Rattle.elf_read.specs.FirstForm.{code_bytes, text_section, code_symbol, func
 use Rattle.guard_cli.specs.Output.{doubled, rows_of, hardened_object}
 use Rattle.mark_word.specs.Words.{bare}
 use Rattle.thumb_table.specs.Images.{Placed, as_part, IsPlacement, IsImage, is_data, chosen, placed, bytes_from, code_parts, data_parts, code_bytes_of, data_bytes_of, entries_of, entry_of, even}
-use Rattle.thumb_table.specs.Parts.{Part, Image, NamedEntry}
+use Rattle.thumb_table.specs.Parts.{Image}
+use Rattle.thumb_table.specs.declared.parts.Part.{Part}
+use Rattle.thumb_table.specs.declared.parts.NamedEntry.{NamedEntry}
 use Rattle.thumb_table.specs.declared.placements.Placement.{Placement}
 use Rattle.guard_cli.proofs.Standing.{length-code_bytes, length-doubled}
 

@@ -9,7 +9,8 @@ use Rattle.mark_word.specs.declared.marks.Mark.{Mark}
 use Rattle.mark_word.specs.declared.marks.Mark.TheVariants.{Plain, Entry, Return, Low}
 use Rattle.thumb_table.specs.States.{Core, State, read}
 use Rattle.thumb_table.specs.Images.{even}
-use Rattle.thumb_table.specs.Parts.{Image, Part}
+use Rattle.thumb_table.specs.Parts.{Image}
+use Rattle.thumb_table.specs.declared.parts.Part.{Part}
 
 -- a code section that holds an address
 pub record Holds (image : Image) (p : Part) (a : ℕ) : Type 0 where

@@ -14,7 +14,9 @@ use Rattle.elf_model.specs.Canonical.{round_up}
 use Rattle.mark_word.specs.declared.marks.Mark.TheVariants.{Return}
 use Rattle.mark_word.specs.Words.{Word, Cell, plain, bare}
 use Rattle.thumb_table.specs.declared.placements.Placement.{Placement}
-use Rattle.thumb_table.specs.Parts.{CodeBytes, Memory, Part, NamedEntry, Image}
+use Rattle.thumb_table.specs.Parts.{CodeBytes, Memory, Image}
+use Rattle.thumb_table.specs.declared.parts.Part.{Part}
+use Rattle.thumb_table.specs.declared.parts.NamedEntry.{NamedEntry}
 use Rattle.thumb_table.specs.States.{Core, State}
 
 -- A placement is where code and data go: code from `base` on, in `room` bytes, then data, then `stack` bytes.

@@ -2,7 +2,9 @@
 #![tactic(auto)]
 
 mod faults;
+mod parts;
 mod placements;
 
 pub use faults::FaultKind;
+pub use parts::{CodeBytes, Image, Memory, NamedEntry, Part, PlaceMark};
 pub use placements::Placement;
