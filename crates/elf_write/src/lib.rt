@@ -1,0 +1,5 @@
+//! Writes objects as relocatable files.
+#![tactic(auto)]
+
+mod fields;
+mod names;
