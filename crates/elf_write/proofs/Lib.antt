@@ -1,1 +1,2 @@
 mod StringTables
+mod Laying

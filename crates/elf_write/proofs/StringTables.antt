@@ -1,6 +1,6 @@
 -- A string table to which one name is added.
 use Rattle.std.proofs.Common.{◌≡◌, ◌≢◌, ℕ, zero, suc, ◌+◌, Bool, true, false, cond, not, ◌||◌, List, [], ◌∷◌, ◌++◌, length, Option, Some, None, refl, sym, ap, ◌∙◌, subst, inl, inr, ◌⊎◌, arith, map, filter}
-use Rattle.std.specs.Prelude.{if◌then◌else◌, nat_eq, ◌==◌}
+use Rattle.std.specs.Prelude.{if◌then◌else◌, nat_eq, ◌==◌, slice_get}
 use Rattle.std.specs.Cmp.Lexicographic.{pointwise}
 use Rattle.std.specs.List.{list_any, flat_map}
 use Rattle.std.proofs.lemmas.List.{nil_from_length, append_assoc, append-nil, length-append, map-append}
@@ -13,7 +13,8 @@ use Rattle.std.specs.Map.{lookup}
 use lib.Pointwise.{bytes_decides}
 use Rattle.elf_model.specs.Fields.{same_name}
 use Rattle.elf_model.specs.Canonical.{different, string_table, offset_among, name_offset}
-use Rattle.elf_model.proofs.Strings.{with_nuls}
+use Rattle.elf_model.proofs.Strings.{with_nuls, kept_name, any_at}
+use Rattle.elf_model.proofs.Lists.{get_left}
 use Rattle.elf_write.specs.declared.names.Names.{Names}
 use Rattle.elf_write.specs.Writing.{placed, offsets_of, IsTable}
 
@@ -186,3 +187,22 @@ new_added t u names n e at text places h =
       },
       long ∙ sym (offset_new 1 ds n new) ∙ sym (placed_name (names ++ n ∷ []) n e ∙ ap (λ (l : List (List ℕ)). offset_among 1 l n) more),
     )
+
+-- one more name behind leaves the offset of a name of the list
+offset_one_more : (names : List (List ℕ)) (m : List ℕ) (i : ℕ) (n : List ℕ) → slice_get names i ≡ Some n → name_offset (names ++ m ∷ []) n ≡ name_offset names n
+offset_one_more names m i [] e = refl
+offset_one_more names [] i (c ∷ cs) e = ap (λ (l : List (List ℕ)). offset_among 1 l (c ∷ cs)) (different_push_empty names)
+offset_one_more names (d ∷ ds) i (c ∷ cs) e =
+    let held = kept_name names c cs (any_at names i (c ∷ cs) e) in
+    ap (λ (l : List (List ℕ)). offset_among 1 l (c ∷ cs)) (different_push names d ds) ∙ go (among (different names) (d ∷ ds)) held
+  where
+    go : (t : Bool) → among (different names) (c ∷ cs) ≡ true → offset_among 1 (if t then different names else different names ++ (d ∷ ds) ∷ []) (c ∷ cs) ≡ offset_among 1 (different names) (c ∷ cs)
+    go true held = refl
+    go false held = offset_old 1 (different names) ((d ∷ ds) ∷ []) (c ∷ cs) held
+
+-- more names behind leave the offset of a name of the list
+pub offset_more : (names more : List (List ℕ)) (i : ℕ) (n : List ℕ) → slice_get names i ≡ Some n → name_offset (names ++ more) n ≡ name_offset names n
+offset_more names [] i n e = ap (λ (l : List (List ℕ)). name_offset l n) (append-nil names)
+offset_more names (m ∷ more) i n e =
+    ap (λ (l : List (List ℕ)). name_offset l n) (sym (append_assoc names (m ∷ []) more))
+    ∙ offset_more (names ++ m ∷ []) more i n (get_left names (m ∷ []) i n e) ∙ offset_one_more names m i n e

@@ -1,7 +1,11 @@
 -- What the parts of a file that is being written hold.
-use Rattle.std.specs.Prelude.{◌≡◌, ℕ, ◌+◌, List, [], ◌∷◌, length, map}
-use Rattle.elf_model.specs.Canonical.{different, string_table}
+use Rattle.std.specs.Prelude.{◌≡◌, ◌≤◌, ℕ, ◌+◌, ◌-◌, ◌==◌, List, [], ◌∷◌, ◌++◌, length, map, replicate, if◌then◌else◌, All}
+use Rattle.elf_model.specs.Constants.{nobits}
+use Rattle.elf_model.specs.Fields.{word}
+use Rattle.elf_model.specs.Canonical.{FileSection, different, string_table, start_of, laid, header_rows}
 use Rattle.elf_write.specs.declared.names.Names.{Names}
+use Rattle.elf_write.specs.declared.layout.Head.{Head}
+use Rattle.elf_write.specs.declared.layout.Layout.{Layout}
 
 -- the names with their offsets, of which the first has this one
 abbrev pub placed : ℕ → List (List ℕ) → List (List ℕ × ℕ)
@@ -16,3 +20,40 @@ offsets_of t = map (λ e. (e.0.items, e.1)) t.places.entries
 pub record IsTable (t : Names) (names : List (List ℕ)) : Type 0 where
   pub bytes : t.text.items ≡ string_table names
   pub offsets : offsets_of t ≡ placed 1 (different names)
+
+-- the section of the file with this name, these numbers and these bytes
+abbrev pub file_section : List ℕ → Head → List ℕ → FileSection
+file_section name h bytes = record {
+  name = name;
+  kind = h.kind;
+  flags = h.flags;
+  size = h.size;
+  link = h.link;
+  info = h.info;
+  align = h.align;
+  entry = h.entry;
+  bytes = bytes;
+}
+
+-- what a section adds to the contents where the ones before end here
+abbrev pub added : ℕ → FileSection → List ℕ
+added at s = if s.kind == nobits then [] else replicate (start_of at s - at) 0 ++ s.bytes
+
+-- a section's header, by the offset of its name and the place of its bytes
+abbrev pub row_with : ℕ → ℕ → FileSection → List ℕ
+row_with name start s =
+    word name ++ word s.kind ++ word s.flags ++ word 0 ++ word start ++ word s.size ++ word s.link ++ word s.info ++ word s.align ++ word s.entry
+
+abbrev pub names_of : List FileSection → List (List ℕ)
+names_of ss = map (λ (s : FileSection). s.name) ss
+
+-- these sections were laid out, one behind the other
+pub record IsLaid (l : Layout) (names : List (List ℕ)) (ss : List FileSection) : Type 0 where
+  pub contents : l.contents.items ≡ laid 52 ss
+  pub rows : l.rows.items ≡ header_rows names 52 ss
+  pub aligned : All (λ (s : FileSection). 1 ≤ s.align) ss
+
+-- and their names are those of the table
+pub record IsWritten (l : Layout) (t : Names) (ss : List FileSection) : Type 0 where
+  pub sections : IsLaid l (names_of ss) ss
+  pub names : IsTable t (names_of ss)

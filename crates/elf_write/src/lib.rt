@@ -2,4 +2,5 @@
 #![tactic(auto)]
 
 mod fields;
+mod layout;
 mod names;
