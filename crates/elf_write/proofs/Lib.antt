@@ -1,2 +1,4 @@
 mod StringTables
 mod Laying
+mod Rows
+mod Relocated

@@ -1,8 +1,11 @@
 -- What the parts of a file that is being written hold.
-use Rattle.std.specs.Prelude.{◌≡◌, ◌≤◌, ℕ, ◌+◌, ◌-◌, ◌==◌, List, [], ◌∷◌, ◌++◌, length, map, replicate, if◌then◌else◌, All}
-use Rattle.elf_model.specs.Constants.{nobits}
-use Rattle.elf_model.specs.Fields.{word}
-use Rattle.elf_model.specs.Canonical.{FileSection, different, string_table, start_of, laid, header_rows}
+use Rattle.std.specs.Prelude.{◌≡◌, ◌≤◌, ℕ, ◌+◌, ◌-◌, ◌*◌, ◌==◌, List, [], ◌∷◌, ◌++◌, length, map, filter, replicate, if◌then◌else◌, codes, All}
+use Rattle.std.specs.List.{flat_map}
+use Rattle.elf_model.specs.declared.objects.Symbol.{Symbol}
+use Rattle.elf_model.specs.declared.objects.Reloc.{Reloc}
+use Rattle.elf_model.specs.Constants.{nobits, rel}
+use Rattle.elf_model.specs.Fields.{half, word}
+use Rattle.elf_model.specs.Canonical.{FileSection, different, string_table, start_of, laid, header_rows, home_index, reloc_row, section_header}
 use Rattle.elf_write.specs.declared.names.Names.{Names}
 use Rattle.elf_write.specs.declared.layout.Head.{Head}
 use Rattle.elf_write.specs.declared.layout.Layout.{Layout}
@@ -57,3 +60,19 @@ pub record IsLaid (l : Layout) (names : List (List ℕ)) (ss : List FileSection)
 pub record IsWritten (l : Layout) (t : Names) (ss : List FileSection) : Type 0 where
   pub sections : IsLaid l (names_of ss) ss
   pub names : IsTable t (names_of ss)
+
+-- a symbol's row, by the offset of its name
+abbrev pub symbol_row_with : ℕ → Symbol → List ℕ
+symbol_row_with name s = word name ++ word s.value ++ word s.size ++ (s.bind * 16 + s.kind) ∷ s.other ∷ half (home_index s.home)
+
+-- the rows of the relocations of a section
+abbrev pub reloc_table : List Reloc → ℕ → List ℕ
+reloc_table relocs i = flat_map reloc_row (filter (λ (r : Reloc). r.section == i) relocs)
+
+-- the numbers of a section of relocations: of the symbol table, of the section that they change, and of its bytes
+abbrev pub rel_head : ℕ → ℕ → ℕ → Head
+rel_head table i size = record { kind = rel; flags = 0; size = size; link = table; info = section_header i; align = 4; entry = 8 }
+
+-- the section of relocations of a section with this name, where there are some
+abbrev pub rel_sections : ℕ → ℕ → List ℕ → List ℕ → List FileSection
+rel_sections table i name rows = if length rows == 0 then [] else file_section (codes ".rel" ++ name) (rel_head table i (length rows)) rows ∷ []

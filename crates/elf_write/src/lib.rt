@@ -4,3 +4,6 @@
 mod fields;
 mod layout;
 mod names;
+mod relocs;
+mod sections;
+mod symbols;
