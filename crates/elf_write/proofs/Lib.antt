@@ -1,4 +1,5 @@
 mod StringTables
 mod Laying
 mod Rows
+mod Tables
 mod Relocated

@@ -1,5 +1,5 @@
 -- The sections of relocations, one after the other.
-use Rattle.std.proofs.Common.{◌≡◌, ◌≢◌, ℕ, zero, suc, ◌+◌, ◌*◌, Bool, true, false, not, cond, List, [], ◌∷◌, ◌++◌, length, refl, sym, ap, ◌∙◌, inl, inr, ◌⊎◌, arith, map, filter}
+use Rattle.std.proofs.Common.{◌≡◌, ◌≢◌, ◌<◌, get_or, ℕ, zero, suc, ◌+◌, ◌*◌, Bool, true, false, not, cond, List, [], ◌∷◌, ◌++◌, length, refl, sym, ap, ◌∙◌, inl, inr, ◌⊎◌, arith, map, filter}
 use Rattle.std.specs.Prelude.{◌==◌, if◌then◌else◌, count_by, codes}
 use Rattle.std.specs.List.{flat_map}
 use Rattle.std.proofs.lemmas.Bool.{cases_eq, eq-eqb, ne_eqb}
@@ -61,3 +61,14 @@ filled_are o i (s ∷ ss) =
         → cond (not t) (1 + count_by (λ u. not (length u == 0)) (map (reloc_table o.relocs) (from (i + 1) (length ss)))) (count_by (λ u. not (length u == 0)) (map (reloc_table o.relocs) (from (i + 1) (length ss)))) ≡ length (if t then relocated o (i + 1) ss else (i, s) ∷ relocated o (i + 1) ss)
     go true h = h
     go false h = omega (arith, h)
+
+pub length_tables : {X : Type 0} (f : ℕ → X) (first n : ℕ) → length (map f (from first n)) ≡ n
+length_tables f first zero = refl
+length_tables f first (suc n) = let e = length_tables f (first + 1) n in omega (arith, e)
+
+pub table_made : {X : Type 0} (f : ℕ → X) (first n i : ℕ) (d : X) → i < n → get_or (map f (from first n)) i d ≡ f (first + i)
+table_made f first zero i d l = absurd (omega arith)
+table_made f first (suc n) zero d l = let same : first ≡ first + 0 = omega arith in ap f same
+table_made f first (suc n) (suc i) d l =
+    let same : (first + 1) + i ≡ first + suc i = omega arith in
+    table_made f (first + 1) n i d (omega arith) ∙ ap f same

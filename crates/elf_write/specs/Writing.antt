@@ -3,7 +3,7 @@ use Rattle.std.specs.Prelude.{◌≡◌, ◌≤◌, ℕ, ◌+◌, ◌-◌, ◌*�
 use Rattle.std.specs.List.{flat_map}
 use Rattle.elf_model.specs.declared.objects.Symbol.{Symbol}
 use Rattle.elf_model.specs.declared.objects.Reloc.{Reloc}
-use Rattle.elf_model.specs.Constants.{nobits, rel}
+use Rattle.elf_model.specs.Constants.{nobits, rel, strtab}
 use Rattle.elf_model.specs.Fields.{half, word}
 use Rattle.elf_model.specs.Canonical.{FileSection, different, string_table, start_of, laid, header_rows, home_index, reloc_row, section_header}
 use Rattle.elf_write.specs.declared.names.Names.{Names}
@@ -76,3 +76,7 @@ rel_head table i size = record { kind = rel; flags = 0; size = size; link = tabl
 -- the section of relocations of a section with this name, where there are some
 abbrev pub rel_sections : ℕ → ℕ → List ℕ → List ℕ → List FileSection
 rel_sections table i name rows = if length rows == 0 then [] else file_section (codes ".rel" ++ name) (rel_head table i (length rows)) rows ∷ []
+
+-- a string table with these bytes
+abbrev pub text_section : List ℕ → List ℕ → FileSection
+text_section name bytes = record { name = name; kind = strtab; flags = 0; size = length bytes; link = 0; info = 0; align = 1; entry = 0; bytes = bytes }

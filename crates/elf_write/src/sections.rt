@@ -1,10 +1,11 @@
 //! The sections of the file: the object's, those of its relocations, and the tables.
 
-ghost use Rattle.std.specs.Prelude.{◌≡◌, ◌≤◌, ◌<◌, ◌+◌, ◌*◌, ◌^◌, ◌++◌, ℕ, List, [], length, map, codes, All, IfOk, OnOk};
+ghost use Rattle.std.specs.Prelude.{◌≡◌, ◌≤◌, ◌<◌, ◌+◌, ◌*◌, ◌^◌, ◌++◌, ℕ, List, [], ◌∷◌, length, map, codes, All, IfOk, OnOk};
+ghost use Rattle.elf_model.specs.Objects.{ObjectParts};
 ghost use Rattle.elf_model.specs.Files.{from};
-ghost use Rattle.elf_model.specs.Canonical.{FileSection, own_section, reloc_section, relocated, symtab_header, file_sections};
+ghost use Rattle.elf_model.specs.Canonical.{FileSection, own_section, reloc_section, symtab_section, relocated, symtab_header, file_sections, round_up};
 ghost use Rattle.elf_model.specs.Fits.{SectionFits};
-ghost use Rattle.elf_write.specs.Writing.{IsWritten, file_section, rel_head, rel_sections, reloc_table};
+ghost use Rattle.elf_write.specs.Writing.{IsWritten, IsTable, added, row_with, file_section, rel_head, rel_sections, reloc_table, text_section};
 
 use crate::layout::{put, put_named, Head, Layout};
 use crate::names::Names;
@@ -111,4 +112,51 @@ pub(crate) fn put_relocs(
         put_rel(alloc, layout, names, &head, sections[i].name.bytes(), rows)?;
     }
     Ok(())
+}
+
+fn table_head(kind: usize, size: usize, align: usize) -> Head
+    ensures { result ≡ record { kind = kind; flags = 0; size = size; link = 0; info = 0; align = align; entry = 0 } }
+{
+    Head {
+        kind,
+        flags: 0,
+        size,
+        link: 0,
+        info: 0,
+        align,
+        entry: 0,
+    }
+}
+
+/// Puts a string table whose name has this offset.
+fn put_strings(layout: &mut Layout, name: usize, text: &[u8]) -> Result<(), AllocError>
+    ensures contents { OnOk result (layout.new.contents.items ≡ layout.old.contents.items ++ added (52 + length layout.old.contents.items) (text_section [] text.now)) }
+    ensures rows { OnOk result (layout.new.rows.items ≡ layout.old.rows.items ++ row_with name (round_up (52 + length layout.old.contents.items) 1) (text_section [] text.now)) }
+{
+    put(layout, name, &table_head(3, text.len(), 1), text)
+}
+
+/// Puts the symbol table, whose header comes before those of the two string tables.
+fn put_symbols(
+    alloc: Global,
+    layout: &mut Layout,
+    names: &mut Names,
+    symbols: &[Symbol],
+    symtab: usize,
+) -> Result<Names, AllocError>
+    requires few { symtab ≤ 4096 }
+    requires small { All (λ s. s.bind * 16 + s.kind < 256) symbols.now }
+    ensures table { IfOk result (λ held. IsTable held (map (λ s. s.name) symbols.now)) }
+    ensures written { (ss : List FileSection) (o : ObjectParts) → IsWritten layout.old names.old ss → o.symbols ≡ symbols.now → symtab ≡ symtab_header o → OnOk result (IsWritten layout.new names.new (ss ++ symtab_section o ∷ [])) }
+{
+    let mut held = Names::new(alloc)?;
+    let rows = symbol_rows(alloc, &mut held, symbols)?;
+    let head = Head {
+        link: symtab + 1,
+        info: 1 + locals(symbols),
+        entry: 16,
+        ..table_head(2, rows.as_slice().len(), 4)
+    };
+    put_named(alloc, layout, names, b".symtab", &head, &rows)?;
+    Ok(held)
 }
