@@ -1,9 +1,10 @@
 -- The rows of symbols and relocations, one after the other.
-use Rattle.std.proofs.Common.{◌≡◌, ◌≤◌, ℕ, ◌+◌, Bool, true, false, cond, List, [], ◌∷◌, ◌++◌, length, get_or, take, drop, replicate, refl, sym, ap, ◌∙◌, inl, inr, ◌⊎◌, arith, map, filter}
+use Rattle.std.proofs.Common.{◌≡◌, ◌<◌, subst, ℕ, ◌+◌, Bool, true, false, cond, List, [], ◌∷◌, ◌++◌, length, get_or, take, drop, replicate, refl, sym, ap, ◌∙◌, inl, inr, ◌⊎◌, arith, map, filter}
 use Rattle.std.specs.Prelude.{◌==◌, nat_le, All}
 use Rattle.std.specs.List.{flat_map, prefix_len}
-use Rattle.std.proofs.lemmas.List.{append_assoc, append-nil, map-append, take_at, drop_at}
-use Rattle.std.proofs.lemmas.List.Elements.{All-head, All-tail}
+use Rattle.std.proofs.lemmas.List.{append_assoc, append-nil, map-append, take_at, drop_at, take_more, drop-drop, take-append-drop}
+use Rattle.std.proofs.Math.Seq.{take-add}
+use Rattle.std.proofs.lemmas.List.Elements.{All-head, All-tail, All-nil, All-cons, All-append}
 use Rattle.std.proofs.lemmas.Grind.{flat_map-append}
 use Rattle.std.proofs.lemmas.Option.{slice_get-get_or}
 use Rattle.std.proofs.lemmas.Bool.{cases_Bool, cases_eq, ne_eqb}
@@ -13,8 +14,9 @@ use Rattle.elf_model.specs.declared.objects.Reloc.{Reloc}
 use Rattle.elf_model.specs.Objects.{rise}
 use Rattle.elf_model.specs.Canonical.{name_offset, symbol_row}
 use Rattle.elf_model.proofs.Lists.{get_map}
-use Rattle.elf_model.proofs.Sorted.{in_from, in_one, in_from_split, all_from_first}
-use Rattle.elf_write.specs.Writing.{symbol_row_with}
+use Rattle.elf_model.proofs.Sorted.{in_from, in_one, in_from_split, none_from}
+use Rattle.elf_write.specs.Writing.{symbol_row_with, FitBefore}
+use Rattle.elf_model.specs.Fits.{RelocFits}
 use Rattle.elf_write.proofs.StringTables.{offset_more}
 
 abbrev pub names_in : List Symbol → List (List ℕ)
@@ -67,3 +69,23 @@ run_is i rs rest n h e l =
     let behind = prefix_behind i rs in
     let long : length (in_one i rs) ≡ n = sym (l ∙ ap (prefix_len (λ r. r.section == i)) split ∙ run ∙ ap (λ (k : ℕ). length (in_one i rs) + k) behind ∙ omega arith) in
     (ap (take n) split ∙ take_at (in_one i rs) (in_from (i + 1) rs) n long, ap (drop n) split ∙ drop_at (in_one i rs) (in_from (i + 1) rs) n long)
+
+-- what holds of those so far and of the next holds of one more
+pub all_more : {X : Type 0} (P : X → Type 0) (xs : List X) (i : ℕ) (d : X) → i < length xs → P (get_or xs i d) → All P (take i xs) → All P (take (i + 1) xs)
+all_more P xs i d l p a = subst (All P) (sym (take_more xs i d l)) (All-append P (take i xs) (get_or xs i d ∷ []) a (All-cons P (get_or xs i d) [] p (All-nil P)))
+
+-- the relocations before the rest were read
+pub none_read : (all : List Reloc) → FitBefore all all
+none_read all = record { count = 0; rest_is = refl; fit = All-nil RelocFits }
+
+pub run_read : (all rest run more : List Reloc) (n : ℕ) → FitBefore all rest → take n rest ≡ run → drop n rest ≡ more → All RelocFits run → FitBefore all more
+run_read all rest run more n f t d a = record {
+  count = f.count + n;
+  rest_is = sym (drop-drop n f.count all) ∙ ap (drop n) f.rest_is ∙ d;
+  fit = subst (All RelocFits) (sym (take-add f.count n all)) (All-append RelocFits (take f.count all) (take n (drop f.count all)) f.fit (subst (All RelocFits) (sym (ap (take n) f.rest_is ∙ t)) a));
+}
+
+pub all_read : (all rest : List Reloc) (count : ℕ) → FitBefore all rest → rest ≡ in_from count all → All (λ (r : Reloc). r.section < count) all → All RelocFits all
+all_read all rest count f e a =
+    let nothing : drop f.count all ≡ [] = f.rest_is ∙ e ∙ none_from count all a in
+    subst (All RelocFits) (sym (append-nil (take f.count all)) ∙ ap (λ (l : List Reloc). take f.count all ++ l) (sym nothing) ∙ take-append-drop f.count all) f.fit

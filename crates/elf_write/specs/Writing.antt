@@ -1,11 +1,13 @@
 -- What the parts of a file that is being written hold.
-use Rattle.std.specs.Prelude.{◌≡◌, ◌≤◌, ℕ, ◌+◌, ◌-◌, ◌*◌, ◌==◌, List, [], ◌∷◌, ◌++◌, length, map, filter, replicate, if◌then◌else◌, codes, All}
+use Rattle.std.specs.Prelude.{◌≡◌, ◌≤◌, ℕ, ◌+◌, ◌-◌, ◌*◌, ◌==◌, List, [], ◌∷◌, ◌++◌, length, map, take, drop, filter, replicate, if◌then◌else◌, codes, All}
 use Rattle.std.specs.List.{flat_map}
 use Rattle.elf_model.specs.declared.objects.Symbol.{Symbol}
 use Rattle.elf_model.specs.declared.objects.Reloc.{Reloc}
 use Rattle.elf_model.specs.Constants.{nobits, rel, strtab}
 use Rattle.elf_model.specs.Fields.{half, word}
-use Rattle.elf_model.specs.Canonical.{FileSection, different, string_table, start_of, laid, header_rows, home_index, reloc_row, section_header}
+use Rattle.elf_model.specs.Objects.{ObjectParts}
+use Rattle.elf_model.specs.Canonical.{FileSection, different, string_table, start_of, laid, header_rows, home_index, reloc_row, section_header, own_section, reloc_section, relocated}
+use Rattle.elf_model.specs.Fits.{RelocFits}
 use Rattle.elf_write.specs.declared.names.Names.{Names}
 use Rattle.elf_write.specs.declared.layout.Head.{Head}
 use Rattle.elf_write.specs.declared.layout.Layout.{Layout}
@@ -80,3 +82,13 @@ rel_sections table i name rows = if length rows == 0 then [] else file_section (
 -- a string table with these bytes
 abbrev pub text_section : List ℕ → List ℕ → FileSection
 text_section name bytes = record { name = name; kind = strtab; flags = 0; size = length bytes; link = 0; info = 0; align = 1; entry = 0; bytes = bytes }
+
+-- the sections before the tables
+abbrev pub front_sections : ObjectParts → List FileSection
+front_sections o = map own_section o.sections ++ map (reloc_section o) (relocated o 0 o.sections)
+
+-- the numbers of the relocations before the last ones fit their fields
+pub record FitBefore (all rest : List Reloc) : Type 0 where
+  pub count : ℕ
+  pub rest_is : drop count all ≡ rest
+  pub fit : All RelocFits (take count all)

@@ -1,10 +1,11 @@
 //! The tables of relocations, one for each section.
 
-ghost use Rattle.std.specs.Prelude.{◌≡◌, ◌==◌, ◌++◌, ℕ, true, not, length, map, filter, count_by, IfOk, OnOk};
+ghost use Rattle.std.specs.Prelude.{◌≡◌, ◌==◌, ◌++◌, ℕ, true, not, length, map, filter, count_by, All, ◌<◌, IfOk, OnOk};
 ghost use Rattle.std.specs.List.{flat_map, prefix_len};
 ghost use Rattle.elf_model.specs.Objects.{reloc_code, rise};
 ghost use Rattle.elf_model.specs.Files.{from};
 ghost use Rattle.elf_model.specs.Canonical.{reloc_row};
+ghost use Rattle.elf_model.specs.Fits.{RelocFits};
 ghost use Rattle.elf_write.specs.Writing.{reloc_table};
 
 use crate::fields::put_word;
@@ -12,7 +13,8 @@ use elf_model::{Bytes, Reloc, RelocKind};
 use std::alloc::{AllocError, Global};
 
 fn reloc_code(kind: RelocKind) -> usize
-    ensures { result ≡ reloc_code kind }
+    ensures code { result ≡ reloc_code kind }
+    ensures small { result < 256 }
 {
     match kind {
         RelocKind::Abs32 => 2,
@@ -29,14 +31,16 @@ fn reloc_code(kind: RelocKind) -> usize
 }
 
 fn put_reloc(rows: &mut Vec<u8>, r: &Reloc) -> Result<(), AllocError>
-    ensures { OnOk result (rows.new.items ≡ rows.old.items ++ reloc_row r.now) }
+    ensures row { OnOk result (rows.new.items ≡ rows.old.items ++ reloc_row r.now) }
+    ensures fits { RelocFits r.now }
 {
     put_word(rows, r.offset as usize)?;
     put_word(rows, (r.symbol as usize + 1) * 256 + reloc_code(r.kind))
 }
 
 fn reloc_rows(alloc: Global, relocs: &[Reloc]) -> Result<Vec<u8>, AllocError>
-    ensures { IfOk result (λ rows. rows.items ≡ flat_map reloc_row relocs.now) }
+    ensures rows { IfOk result (λ rows. rows.items ≡ flat_map reloc_row relocs.now) }
+    ensures fit { OnOk result (All RelocFits relocs.now) }
 {
     let mut rows = Vec::new(alloc);
     for r in relocs {
@@ -65,8 +69,10 @@ pub(crate) fn reloc_tables(
     count: usize,
     relocs: &[Reloc],
 ) -> Result<Vec<Bytes>, AllocError>
-    requires { rise relocs.now ≡ true }
-    ensures { IfOk result (λ tables. tables.items ≡ map (reloc_table relocs.now) (from 0 count)) }
+    requires rising { rise relocs.now ≡ true }
+    requires placed { All (λ r. r.section < count) relocs.now }
+    ensures tables { IfOk result (λ tables. tables.items ≡ map (reloc_table relocs.now) (from 0 count)) }
+    ensures fit { OnOk result (All RelocFits relocs.now) }
 {
     let mut tables = Vec::new(alloc);
     let mut rest = relocs;

@@ -3,13 +3,12 @@
 ghost use Rattle.std.specs.Prelude.{◌≡◌, ◌≤◌, ◌<◌, ◌+◌, ◌*◌, ◌^◌, ◌++◌, ℕ, List, [], ◌∷◌, length, map, codes, All, IfOk, OnOk};
 ghost use Rattle.elf_model.specs.Objects.{ObjectParts};
 ghost use Rattle.elf_model.specs.Files.{from};
-ghost use Rattle.elf_model.specs.Canonical.{FileSection, own_section, reloc_section, symtab_section, relocated, symtab_header, file_sections, round_up};
-ghost use Rattle.elf_model.specs.Fits.{SectionFits};
-ghost use Rattle.elf_write.specs.Writing.{IsWritten, IsTable, added, row_with, file_section, rel_head, rel_sections, reloc_table, text_section};
+ghost use Rattle.elf_model.specs.Canonical.{FileSection, section_names, own_section, reloc_section, symtab_section, relocated, symtab_header, file_sections, round_up};
+ghost use Rattle.elf_model.specs.Fits.{SectionFits, SymbolFits};
+ghost use Rattle.elf_write.specs.Writing.{IsWritten, IsLaid, IsTable, added, row_with, front_sections, file_section, rel_head, rel_sections, reloc_table, text_section};
 
 use crate::layout::{put, put_named, Head, Layout};
 use crate::names::Names;
-use crate::relocs::filled;
 use crate::symbols::{locals, symbol_rows};
 use elf_model::{Bytes, Object, Section, Symbol};
 use std::alloc::{AllocError, Global};
@@ -98,14 +97,15 @@ pub(crate) fn put_relocs(
     names: &mut Names,
     o: &Object,
     tables: &[Bytes],
+    symtab: usize,
 ) -> Result<(), AllocError>
     requires own { IsWritten layout.old names.old (map own_section o.now.sections) }
     requires tables { tables.now ≡ map (reloc_table o.now.relocs) (from 0 (length o.now.sections)) }
+    requires symtab { symtab ≡ symtab_header o.now }
     requires few { length o.now.sections ≤ 1024 }
     ensures { OnOk result (IsWritten layout.new names.new (map own_section o.now.sections ++ map (reloc_section o.now) (relocated o.now 0 o.now.sections))) }
 {
     let sections = o.sections();
-    let symtab = 1 + sections.len() + filled(tables);
     for i in 0..sections.len() {
         let rows = tables[i].as_slice();
         let head = reloc_head(symtab, i, rows.len());
@@ -146,6 +146,7 @@ fn put_symbols(
 ) -> Result<Names, AllocError>
     requires few { symtab ≤ 4096 }
     requires small { All (λ s. s.bind * 16 + s.kind < 256) symbols.now }
+    ensures fit { OnOk result (All SymbolFits symbols.now) }
     ensures table { IfOk result (λ held. IsTable held (map (λ s. s.name) symbols.now)) }
     ensures written { (ss : List FileSection) (o : ObjectParts) → IsWritten layout.old names.old ss → o.symbols ≡ symbols.now → symtab ≡ symtab_header o → OnOk result (IsWritten layout.new names.new (ss ++ symtab_section o ∷ [])) }
 {
@@ -159,4 +160,27 @@ fn put_symbols(
     };
     put_named(alloc, layout, names, b".symtab", &head, &rows)?;
     Ok(held)
+}
+
+/// Puts the three tables behind the other sections.
+pub(crate) fn put_tables(
+    alloc: Global,
+    layout: &mut Layout,
+    names: &mut Names,
+    o: &Object,
+    symtab: usize,
+) -> Result<(), AllocError>
+    requires few { symtab ≤ 4096 }
+    requires small { All (λ s. s.bind * 16 + s.kind < 256) o.now.symbols }
+    requires symtab { symtab ≡ symtab_header o.now }
+    requires front { IsWritten layout.old names.old (front_sections o.now) }
+    ensures fit { OnOk result (All SymbolFits o.now.symbols) }
+    ensures laid { OnOk result (IsLaid layout.new (section_names o.now) (file_sections o.now)) }
+{
+    let held = put_symbols(alloc, layout, names, o.symbols(), symtab)?;
+    let name = names.add(alloc, b".strtab")?;
+    put_strings(layout, name, held.text())?;
+    let last = names.add(alloc, b".shstrtab")?;
+    put_strings(layout, last, names.text())?;
+    Ok(())
 }

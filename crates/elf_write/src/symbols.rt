@@ -4,6 +4,7 @@ ghost use Rattle.std.specs.Prelude.{◌≡◌, ◌+◌, ◌*◌, ◌<◌, ◌++�
 ghost use Rattle.std.specs.List.{flat_map};
 ghost use Rattle.elf_model.specs.Constants.{local};
 ghost use Rattle.elf_model.specs.Canonical.{home_index, symbol_row};
+ghost use Rattle.elf_model.specs.Fits.{SymbolFits};
 ghost use Rattle.elf_write.specs.Writing.{IsTable, symbol_row_with};
 
 use crate::fields::{put_half, put_words, put_zeros};
@@ -23,7 +24,8 @@ fn home_index(home: Home) -> usize
 
 fn put_symbol(rows: &mut Vec<u8>, name: usize, s: &Symbol) -> Result<(), AllocError>
     requires { s.now.bind * 16 + s.now.kind < 256 }
-    ensures { OnOk result (rows.new.items ≡ rows.old.items ++ symbol_row_with name s.now) }
+    ensures row { OnOk result (rows.new.items ≡ rows.old.items ++ symbol_row_with name s.now) }
+    ensures fits { SymbolFits s.now }
 {
     put_words(rows, &[name, s.value as usize, s.size as usize])?;
     rows.push(s.bind * 16 + s.kind)?;
@@ -40,6 +42,7 @@ pub(crate) fn symbol_rows(
     requires empty { IsTable names.old [] }
     requires small { All (λ s. s.bind * 16 + s.kind < 256) symbols.now }
     ensures rows { IfOk result (λ rows. rows.items ≡ replicate 16 0 ++ flat_map (symbol_row (map (λ s. s.name) symbols.now)) symbols.now) }
+    ensures fit { OnOk result (All SymbolFits symbols.now) }
     ensures names { OnOk result (IsTable names.new (map (λ s. s.name) symbols.now)) }
 {
     let mut rows = Vec::new(alloc);

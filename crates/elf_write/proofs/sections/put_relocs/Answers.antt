@@ -28,15 +28,11 @@ loop-i-preserved c =
     let rows : c.as_slice-rows.result.now ≡ reloc_table o.relocs i =
     c.as_slice-rows.ensures ∙ c.index-tables-i.is ∙ ap (λ (l : List (List ℕ)). get_or l i c.index-tables-i.result) c.requires.tables
     ∙ table_made (reloc_table o.relocs) 0 (length o.sections) i c.index-tables-i.result inside ∙ ap (reloc_table o.relocs) zero_first in
-    let count = ap length c.sections-sections.ensures in
-    let full = c.filled.ensures ∙ ap (count_by (λ t. not (length t == 0))) c.requires.tables ∙ filled_are o 0 o.sections in
-    let table : ℕ = 1 + length c.sections-sections.result.now + c.filled.result in
-    let symtab : table ≡ symtab_header o = omega (arith, count, full) in
     let front : List FileSection = map own_section o.sections ++ map (reloc_section o) (relocated o 0 xs) in
-    let put : IsWritten c.put_rel.new.layout c.put_rel.new.names (front ++ rel_sections table i c.bytes.result.now c.as_slice-rows.result.now) =
-    c.in_ok-put_rel.ensures front table i c.reloc_head-head.ensures c.loop-i.invariant in
-    let one = one_table o i table s c.as_slice-rows.result.now c.bytes.result.now symtab rows (c.bytes.ensures ∙ ap (λ (x : Section). x.name) (sym c.index-sections-i.is)) in
-    let all : front ++ rel_sections table i c.bytes.result.now c.as_slice-rows.result.now ≡ map own_section o.sections ++ map (reloc_section o) (relocated o 0 (take (i + 1) o.sections)) =
+    let put : IsWritten c.put_rel.new.layout c.put_rel.new.names (front ++ rel_sections c.args.symtab i c.bytes.result.now c.as_slice-rows.result.now) =
+    c.in_ok-put_rel.ensures front c.args.symtab i c.reloc_head-head.ensures c.loop-i.invariant in
+    let one = one_table o i c.args.symtab s c.as_slice-rows.result.now c.bytes.result.now c.requires.symtab rows (c.bytes.ensures ∙ ap (λ (x : Section). x.name) (sym c.index-sections-i.is)) in
+    let all : front ++ rel_sections c.args.symtab i c.bytes.result.now c.as_slice-rows.result.now ≡ map own_section o.sections ++ map (reloc_section o) (relocated o 0 (take (i + 1) o.sections)) =
     ap (λ (l : List FileSection). front ++ l) one ∙ append_assoc (map own_section o.sections) (map (reloc_section o) (relocated o 0 xs)) (map (reloc_section o) (numbered o i s))
     ∙ ap (λ (l : List FileSection). map own_section o.sections ++ l) (sym (map-append (reloc_section o) (relocated o 0 xs) (numbered o i s)))
     ∙ ap (λ (l : List (ℕ × Section)). map own_section o.sections ++ map (reloc_section o) l) (sym (ap (relocated o 0) more ∙ relocated_push o 0 xs s ∙ ap (λ (k : ℕ). relocated o 0 xs ++ numbered o k s) long)) in
