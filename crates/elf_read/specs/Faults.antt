@@ -9,26 +9,12 @@ use Rattle.elf_model.specs.Constants.{progbits, symtab, strtab, rel, rela, nobit
 use Rattle.elf_model.specs.Refusals.{number_of}
 use Rattle.elf_model.specs.Fields.{byte_at, half_at, word_at, same_name}
 use Rattle.elf_model.specs.Objects.{is_alloc, is_writable, is_exec, is_alignment, is_dropped_name, is_kept_kind}
-use Rattle.elf_model.specs.Files.{from, header_count, header_place, header, headers, IsKind, EndsAt, section_name, is_table}
+use Rattle.elf_model.specs.Files.{from, header_count, header_place, header, headers, IsKind, EndsAt, section_name, is_table, is_refused_kind, is_dropped, is_kept}
 use Rattle.elf_model.specs.Maps.{map_name}
 
 -- the limit of `harden`
 abbrev pub is_input_limit : Limit → Bool
 is_input_limit l = (l.file == 1048576) && (l.sections == 256) && (l.symbols == 16384) && (l.relocs == 65536) && (l.code == 65536)
-
--- the kinds of sections that are refused wherever they stand
-abbrev pub is_refused_kind : ℕ → Bool
-is_refused_kind kind = (kind == group) || (kind == rela) || (kind == symtab_shndx)
-
--- a section that is left out, with its symbols and relocations
-abbrev pub is_dropped : List ℕ → ℕ → Bool
-is_dropped b h =
-    not (is_table (header b h).kind) && not (is_refused_kind (header b h).kind)
-    && (is_dropped_name (section_name b h) || ((header b h).kind == arm_exidx) || not (is_alloc (header b h).flags || is_kept_kind (header b h).kind (header b h).flags))
-
--- a section that is neither a table nor left out
-abbrev pub is_held : List ℕ → ℕ → Bool
-is_held b h = not (is_table (header b h).kind) && not (is_dropped b h)
 
 pub record IsHeader (b : List ℕ) (h : ℕ) : Type 0 where
   pub behind_null : 0 < h
@@ -46,10 +32,10 @@ pub record IsSymbolAt (b : List ℕ) (t k e : ℕ) : Type 0 where
   pub there : k < (header b t).size / 16
   pub place : e ≡ (header b t).offset + 16 * k
 
--- relocation j of the relocation section h stands at r, and is of a section that is held
+-- relocation j of the relocation section h stands at r, and is of a section that is kept
 pub record IsRelocAt (b : List ℕ) (h j r : ℕ) : Type 0 where
   pub table : IsKind b h rel
-  pub of_held : is_held b (header b h).info ≡ true
+  pub of_kept : is_kept b (header b h).info ≡ true
   pub there : j < (header b h).size / 8
   pub place : r ≡ (header b h).offset + 8 * j
 
@@ -57,12 +43,12 @@ pub record IsRelocAt (b : List ℕ) (h j r : ℕ) : Type 0 where
 abbrev pub names_no_section : ℕ → Bool
 names_no_section index = (index == undefined_index) || (index == absolute_index)
 
--- a symbol that stays: undefined, absolute, or in a section that is held
-pub record IsHeldSymbol (b : List ℕ) (k : ℕ) : Type 0 where
+-- a symbol that stays: undefined, absolute, or in a section that is kept
+pub record IsKeptSymbol (b : List ℕ) (k : ℕ) : Type 0 where
   pub table : ℕ
   pub e : ℕ
   pub stands : IsSymbolAt b table k e
-  pub home : (names_no_section (half_at b (e + 14)) ≡ true) ⊎ (is_held b (half_at b (e + 14)) ≡ true)
+  pub home : (names_no_section (half_at b (e + 14)) ≡ true) ⊎ (is_kept b (half_at b (e + 14)) ≡ true)
 
 -- bytes that a relocation of a type changes
 abbrev pub reloc_width : ℕ → ℕ
@@ -74,10 +60,10 @@ place_of kind value = if kind == func then value - value % 2 else value
 
 -- how many relocations, and how many bytes of code, the headers up to h have
 abbrev pub relocs_up_to : List ℕ → ℕ → ℕ
-relocs_up_to b h = sum_by (λ k. (header b k).size / 8) (filter (λ k. ((header b k).kind == rel) && is_held b (header b k).info) (from 1 h))
+relocs_up_to b h = sum_by (λ k. (header b k).size / 8) (filter (λ k. ((header b k).kind == rel) && is_kept b (header b k).info) (from 1 h))
 
 abbrev pub is_code_header : List ℕ → ℕ → Bool
-is_code_header b h = ((header b h).kind == progbits) && is_alloc (header b h).flags && is_exec (header b h).flags && is_held b h
+is_code_header b h = ((header b h).kind == progbits) && is_alloc (header b h).flags && is_exec (header b h).flags && is_kept b h
 
 abbrev pub code_up_to : List ℕ → ℕ → ℕ
 code_up_to b h = sum_by (λ k. (header b k).size) (filter (is_code_header b) (from 1 h))
@@ -122,19 +108,19 @@ pub data Fault (b : List ℕ) (l : Limit) : Refusal → ℕ → ℕ → Type 0 w
   bad_index : (t k e : ℕ) → IsSymbolAt b t k e → names_no_section (half_at b (e + 14)) ≡ false → (header_count b ≤ half_at b (e + 14)) ⊎ (0xFF00 ≤ half_at b (e + 14)) → Fault b l BadSymbol t (e + 14)
   bad_value : (t k e : ℕ) → IsSymbolAt b t k e → names_no_section (half_at b (e + 14)) ≡ false → half_at b (e + 14) < header_count b → half_at b (e + 14) < 0xFF00 →
       (header b (half_at b (e + 14))).size < place_of (byte_at b (e + 12) % 16) (word_at b (e + 4)) → Fault b l BadSymbol t (e + 4)
-  -- a relocation of a section that is held
-  bad_symbol : (h j r : ℕ) → IsRelocAt b h j r → word_at b (r + 4) % 256 ≢ 0 → (IsHeldSymbol b (word_at b (r + 4) / 256) → ⊥) → Fault b l BadReloc h (r + 4)
+  -- a relocation of a section that is kept
+  bad_symbol : (h j r : ℕ) → IsRelocAt b h j r → word_at b (r + 4) % 256 ≢ 0 → (IsKeptSymbol b (word_at b (r + 4) / 256) → ⊥) → Fault b l BadReloc h (r + 4)
   bad_place : (h j r : ℕ) → IsRelocAt b h j r → (header b (header b h).info).size < word_at b r + reloc_width (word_at b (r + 4) % 256) → Fault b l BadReloc h r
   second_place : (g i q h j r : ℕ) → (g < h) ⊎ ((g ≡ h) × (i < j)) → IsRelocAt b g i q → IsRelocAt b h j r → (header b g).info ≡ (header b h).info → word_at b q ≡ word_at b r → Fault b l BadReloc h r
-  nobits_target : (h : ℕ) → IsKind b h rel → is_held b (header b h).info ≡ true → (header b (header b h).info).kind ≡ nobits → Fault b l BadReloc h (header_place b h + 28)
+  nobits_target : (h : ℕ) → IsKind b h rel → is_kept b (header b h).info ≡ true → (header b (header b h).info).kind ≡ nobits → Fault b l BadReloc h (header_place b h + 28)
   -- more than the limit
   many_headers : l.sections < header_count b → Fault b l TooMany 0 48
   many_symbols : (t : ℕ) → IsKind b t symtab → l.symbols < (header b t).size / 16 - 1 → Fault b l TooMany t (header_place b t + 20)
-  many_relocs : (h : ℕ) → IsKind b h rel → is_held b (header b h).info ≡ true → l.relocs < relocs_up_to b h → Fault b l TooMany h (header_place b h + 20)
+  many_relocs : (h : ℕ) → IsKind b h rel → is_kept b (header b h).info ≡ true → l.relocs < relocs_up_to b h → Fault b l TooMany h (header_place b h + 20)
   much_code : (h : ℕ) → IsHeader b h → is_code_header b h ≡ true → l.code < code_up_to b h → Fault b l TooMany h (header_place b h + 20)
   -- a section of a kind that isn't handled; the limit of `harden` takes no map
   refused_kind : (h : ℕ) → IsHeader b h → is_refused_kind (header b h).kind ≡ true → Fault b l SectionKind h (header_place b h + 4)
-  memory_kind : (h : ℕ) → IsHeader b h → is_alloc (header b h).flags ≡ true → is_memory_kind (header b h).kind ≡ false → is_dropped b h ≡ false → Fault b l SectionKind h (header_place b h + 4)
+  memory_kind : (h : ℕ) → IsHeader b h → is_alloc (header b h).flags ≡ true → is_memory_kind (header b h).kind ≡ false → ((is_table (header b h).kind ≡ true) ⊎ (is_dropped b h ≡ false)) → Fault b l SectionKind h (header_place b h + 4)
   writable_code : (h : ℕ) → IsHeader b h → is_exec (header b h).flags ≡ true → is_writable (header b h).flags ≡ true → Fault b l SectionKind h (header_place b h + 8)
   empty_code : (h : ℕ) → IsHeader b h → is_exec (header b h).flags ≡ true → (header b h).kind ≡ nobits → Fault b l SectionKind h (header_place b h + 8)
   own_map : (h : ℕ) → IsHeader b h → is_input_limit l ≡ true → same_name (section_name b h) map_name ≡ true → Fault b l SectionKind h (header_place b h)
@@ -156,4 +142,4 @@ IsFaultless b l = (r : Refusal) (section offset : ℕ) → Fault b l r section o
 
 -- how many sections are left out
 abbrev pub dropped_count : List ℕ → ℕ
-dropped_count b = length (filter (is_dropped b) (headers b))
+dropped_count b = length (filter (λ h. not (is_table (header b h).kind) && is_dropped b h) (headers b))

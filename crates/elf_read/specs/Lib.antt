@@ -1,3 +1,4 @@
 pub mod FirstForm
 pub mod FirstFile
 pub mod Faults
+pub mod Headers

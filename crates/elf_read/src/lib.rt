@@ -8,6 +8,7 @@ ghost use Rattle.elf_read.specs.FirstForm.{IsFirstObject, IsDenied, at_start};
 
 mod file;
 mod form;
+mod headers;
 #[cfg(test)]
 mod tests;
 

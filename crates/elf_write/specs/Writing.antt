@@ -6,7 +6,7 @@ use Rattle.elf_model.specs.declared.objects.Reloc.{Reloc}
 use Rattle.elf_model.specs.Constants.{nobits, rel, strtab}
 use Rattle.elf_model.specs.Fields.{half, word}
 use Rattle.elf_model.specs.Objects.{ObjectParts}
-use Rattle.elf_model.specs.Canonical.{FileSection, different, string_table, start_of, laid, header_rows, home_index, reloc_row, section_header, own_section, reloc_section, relocated}
+use Rattle.elf_model.specs.Canonical.{FileSection, different, string_table, start_of, laid, header_rows, home_index, reloc_row, section_header, own_section, reloc_section, relocated, file_header, round_up}
 use Rattle.elf_model.specs.Fits.{RelocFits}
 use Rattle.elf_write.specs.declared.names.Names.{Names}
 use Rattle.elf_write.specs.declared.layout.Head.{Head}
@@ -92,3 +92,9 @@ pub record FitBefore (all rest : List Reloc) : Type 0 where
   pub count : ℕ
   pub rest_is : drop count all ≡ rest
   pub fit : All RelocFits (take count all)
+
+-- the file of these contents and rows of headers, by the number of the symbol table's header
+abbrev pub whole_file : List ℕ → List ℕ → ℕ → ℕ → List ℕ
+whole_file contents rows symtab flags =
+    file_header (round_up (52 + length contents) 4) (symtab + 3) (symtab + 2) flags
+    ++ contents ++ replicate (round_up (52 + length contents) 4 - (52 + length contents)) 0 ++ replicate 40 0 ++ rows

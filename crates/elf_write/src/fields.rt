@@ -16,6 +16,16 @@ pub(crate) fn put_half(out: &mut Vec<u8>, x: usize) -> Result<(), AllocError>
     out.extend_from_slice(&bytes[..2])
 }
 
+/// Puts the low two bytes of each of these numbers.
+pub(crate) fn put_halves(out: &mut Vec<u8>, numbers: &[usize]) -> Result<(), AllocError>
+    ensures { OnOk result (out.new.items ≡ out.old.items ++ flat_map half numbers.now) }
+{
+    for x in numbers {
+        put_half(out, *x)?;
+    }
+    Ok(())
+}
+
 /// Puts the low four bytes of a number.
 pub(crate) fn put_word(out: &mut Vec<u8>, x: usize) -> Result<(), AllocError>
     ensures { OnOk result (out.new.items ≡ out.old.items ++ word x) }

@@ -7,3 +7,4 @@ mod names;
 mod relocs;
 mod sections;
 mod symbols;
+mod write;

@@ -1,8 +1,7 @@
 -- The definitions, run on the smallest code: `movs r0, #5` and `bx lr`, plain and hardened.
-use Rattle.std.specs.Prelude.{◌≡◌, ℕ, ◌+◌, ◌*◌, ◌-◌, Bool, true, false, List, [], ◌∷◌, length, map, replicate, Option, Some, None, Result, Ok, Err, refl, codes}
+use Rattle.std.specs.Prelude.{◌≡◌, ℕ, ◌+◌, Bool, true, false, List, [], ◌∷◌, length, Option, Some, None, Result, Ok, Err, refl, codes}
 use Rattle.elf_read.specs.FirstForm.{first_object}
 use Rattle.guard_cli.specs.Output.{hardened_object}
-use Rattle.guard_cli.specs.Marks.{bare}
 use Rattle.guard_cli.specs.Instructions.{Move, Mov, Imm, Jump, Outside, Last, Inside, Unknown, PcOperand, Unpredictable, decode}
 use Rattle.guard_cli.specs.States.{State, FaultKind, CodeBytes, read}
 use Rattle.guard_cli.specs.Schedules.{run, is_in}

@@ -1,45 +1,49 @@
--- The image of an object of the first form, plain or hardened: one code section at the base, no data, one entry.
-use Rattle.std.proofs.Common.{◌≡◌, ℕ, ◌+◌, ◌-◌, ◌*◌, ◌%◌, ◌≤◌, true, false, List, [], ◌∷◌, ◌++◌, length, replicate, Some, None, if◌then◌else◌, codes, refl, sym, ap, ◌∙◌, subst, append-nil, arith}
+-- The image of an object of one function, as the first form has and what is made of it: its code at the base, no data, one entry.
+use Rattle.std.proofs.Common.{◌≡◌, ℕ, ◌+◌, ◌-◌, ◌*◌, ◌%◌, ◌≤◌, max, true, false, List, [], ◌∷◌, ◌++◌, length, map, Some, None, if◌then◌else◌, codes, refl, sym, ap, ap₂, ◌∙◌, subst, append-nil, arith}
 use Rattle.std.specs.Cmp.Lexicographic.{bytes_decides}
+use Rattle.elf_model.specs.declared.objects.Section.{Section}
+use Rattle.elf_model.specs.declared.objects.MapRow.{MapRow}
 use Rattle.elf_model.specs.Fields.{same_name}
+use Rattle.elf_model.specs.Objects.{ObjectParts, is_code}
 use Rattle.elf_model.specs.Canonical.{round_up}
-use Rattle.elf_read.specs.FirstForm.{code_bytes, text_section, first_object}
-use Rattle.guard_cli.specs.Output.{doubled, hardened_object}
-use Rattle.guard_cli.specs.Images.{Placement, IsPlacement, Part, Image, IsImage, code_parts, data_parts, code_bytes_of, data_bytes_of, entries_of, NamedEntry, entry_of, even}
+use Rattle.elf_model.specs.Maps.{map_section}
+use Rattle.elf_read.specs.FirstForm.{code_bytes, text_section, code_symbol, function_symbol, first_object}
+use Rattle.guard_cli.specs.Output.{doubled, rows_of, hardened_object}
+use Rattle.guard_cli.specs.Marks.{bare}
+use Rattle.guard_cli.specs.Images.{Placement, IsPlacement, Part, Image, IsImage, is_data, chosen, placed, bytes_from, code_parts, data_parts, code_bytes_of, data_bytes_of, entries_of, NamedEntry, entry_of, even}
 use Rattle.guard_cli.proofs.Standing.{length-code_bytes, length-doubled}
 
 pub length_doubled_bytes : (halves : List ℕ) → length (code_bytes (doubled halves)) ≡ 4 * length halves
 length_doubled_bytes halves = omega (arith, length-code_bytes (doubled halves), length-doubled halves)
 
+-- An object of one function. Its other sections are neither code nor data.
+abbrev pub lone_object : List ℕ → List Section → ObjectParts
+lone_object bytes more = record {
+  sections = text_section bytes ∷ more;
+  symbols = code_symbol ∷ function_symbol (length bytes) ∷ [];
+  relocs = [];
+  flags = 0x05000000;
+}
+
+pub record AreIdle (more : List Section) : Type 0 where
+  pub no_code : (j k : ℕ) → chosen is_code 0 j k more ≡ []
+  pub no_data : (j k : ℕ) → chosen is_data 0 j k more ≡ []
+
+pub none_idle : AreIdle []
+none_idle = record { no_code = λ j k. refl; no_data = λ j k. refl }
+
+pub map_idle : (rows : List MapRow) → AreIdle (map_section rows ∷ [])
+map_idle rows = record { no_code = λ j k. refl; no_data = λ j k. refl }
+
 -- the one section of code, where it starts
 abbrev pub text_part : ℕ → List ℕ → Part
 text_part start bytes = record { object = 0; index = 0; ordinal = 0; start = start; section = text_section bytes }
 
-pub base_is_round : (base : ℕ) → base % 4096 ≡ 0 → round_up base 4 ≡ base
+abbrev pub text_parts : ℕ → List ℕ → List Part
+text_parts start bytes = text_part start bytes ∷ []
+
+base_is_round : (base : ℕ) → base % 4096 ≡ 0 → round_up base 4 ≡ base
 base_is_round base h = omega arith
-
-pub first_parts : (halves : List ℕ) (at : Placement) → IsPlacement at → code_parts (first_object halves ∷ []) at ++ data_parts (first_object halves ∷ []) at ≡ text_part at.base (code_bytes halves) ∷ []
-first_parts halves at p = ap (λ (s : ℕ). text_part s (code_bytes halves) ∷ []) (base_is_round at.base p.base_even)
-
-pub hard_parts : (halves : List ℕ) (at : Placement) → IsPlacement at → code_parts (hardened_object halves ∷ []) at ++ data_parts (hardened_object halves ∷ []) at ≡ text_part at.base (code_bytes (doubled halves)) ∷ []
-hard_parts halves at p = ap (λ (s : ℕ). text_part s (code_bytes (doubled halves)) ∷ []) (base_is_round at.base p.base_even)
-
-text_bytes : (base start : ℕ) (bytes : List ℕ) → start ≡ base → replicate (start - base) 0 ++ bytes ++ [] ≡ bytes
-text_bytes base start bytes e =
-    let n : start - base ≡ 0 = omega arith in
-    rw n (append-nil bytes)
-
-pub first_code_bytes : (halves : List ℕ) (at : Placement) → IsPlacement at → code_bytes_of (first_object halves ∷ []) at ≡ code_bytes halves
-first_code_bytes halves at p = text_bytes at.base (round_up at.base 4) (code_bytes halves) (base_is_round at.base p.base_even)
-
-pub hard_code_bytes : (halves : List ℕ) (at : Placement) → IsPlacement at → code_bytes_of (hardened_object halves ∷ []) at ≡ code_bytes (doubled halves)
-hard_code_bytes halves at p = text_bytes at.base (round_up at.base 4) (code_bytes (doubled halves)) (base_is_round at.base p.base_even)
-
-pub first_data : (halves : List ℕ) (at : Placement) → data_bytes_of (first_object halves ∷ []) at ≡ []
-first_data halves at = refl
-
-pub hard_data : (halves : List ℕ) (at : Placement) → data_bytes_of (hardened_object halves ∷ []) at ≡ []
-hard_data halves at = refl
 
 -- the entry of the function
 abbrev pub entry_at : ℕ → NamedEntry
@@ -48,16 +52,33 @@ entry_at base = record { name = codes "f"; address = base + 1 }
 pub even_of_entry : (base : ℕ) → base % 4096 ≡ 0 → even (base + 1) ≡ base
 even_of_entry base h = omega arith
 
-pub first_entries : (halves : List ℕ) (base : ℕ) → base % 4096 ≡ 0 → entries_of (first_object halves ∷ []) (text_part base (code_bytes halves) ∷ []) ≡ entry_at base ∷ []
-first_entries halves base h = ap (λ (a : ℕ). entry_at a ∷ []) (even_of_entry base h)
+module _ (bytes : List ℕ) (more : List Section) (idle : AreIdle more) (at : Placement) (p : IsPlacement at) where
+  lone_code : code_parts (lone_object bytes more ∷ []) at ≡ text_parts at.base bytes
+  lone_code =
+      ap (λ (ps : List Part). placed (λ s. max 4 s.align) at.base (text_part 0 bytes ∷ ps ++ [])) (idle.no_code 1 1)
+      ∙ ap (λ (s : ℕ). text_parts s bytes) (base_is_round at.base p.base_even)
 
-pub hard_entries : (halves : List ℕ) (base : ℕ) → base % 4096 ≡ 0 → entries_of (hardened_object halves ∷ []) (text_part base (code_bytes (doubled halves)) ∷ []) ≡ entry_at base ∷ []
-hard_entries halves base h = ap (λ (a : ℕ). entry_at a ∷ []) (even_of_entry base h)
+  lone_data : data_parts (lone_object bytes more ∷ []) at ≡ []
+  lone_data = ap (λ (ps : List Part). placed (λ s. s.align) (at.base + at.room) (ps ++ [])) (idle.no_data 1 0)
+
+  pub lone_parts : code_parts (lone_object bytes more ∷ []) at ++ data_parts (lone_object bytes more ∷ []) at ≡ text_parts at.base bytes
+  lone_parts = ap₂ (λ (a b : List Part). a ++ b) lone_code lone_data
+
+  pub lone_code_bytes : code_bytes_of (lone_object bytes more ∷ []) at ≡ bytes
+  lone_code_bytes =
+      let none : at.base - at.base ≡ 0 = omega arith in
+      ap (bytes_from at.base) lone_code ∙ rw none (append-nil bytes)
+
+  pub lone_data_bytes : data_bytes_of (lone_object bytes more ∷ []) at ≡ []
+  lone_data_bytes = ap (bytes_from (at.base + at.room)) lone_data
+
+  pub lone_entries : entries_of (lone_object bytes more ∷ []) (text_parts at.base bytes) ≡ entry_at at.base ∷ []
+  lone_entries = ap (λ (a : ℕ). entry_at a ∷ []) (even_of_entry at.base p.base_even)
 
 -- what is known of an image of this form, by its code and how far its code may grow
 pub record IsFormed (at : Placement) (bytes : List ℕ) (image : Image) : Type 0 where
   pub placement : IsPlacement at
-  pub parts : image.parts ≡ text_part at.base bytes ∷ []
+  pub parts : image.parts ≡ text_parts at.base bytes
   pub base : image.code.base ≡ at.base
   pub bytes_are : image.code.bytes ≡ bytes
   pub memory : image.memory ≡ record { base = at.base + at.room; cells = [] }
@@ -65,33 +86,26 @@ pub record IsFormed (at : Placement) (bytes : List ℕ) (image : Image) : Type 0
   pub fits : length bytes ≤ at.room
   pub end_fits : at.base + at.room ≤ 0x7FFFF000
 
-pub first_formed : (halves : List ℕ) (at : Placement) (image : Image) → IsImage (first_object halves ∷ []) at image → IsFormed at (code_bytes halves) image
-first_formed halves at image i =
-    let same_parts = i.parts ∙ first_parts halves at i.placement in
+pub lone_formed : (bytes : List ℕ) (more : List Section) → AreIdle more → (at : Placement) (image : Image) → IsImage (lone_object bytes more ∷ []) at image → IsFormed at bytes image
+lone_formed bytes more idle at image i =
+    let p = i.placement in
+    let same_parts = i.parts ∙ lone_parts bytes more idle at p in
     record {
-      placement = i.placement;
+      placement = p;
       parts = same_parts;
       base = i.code_base;
-      bytes_are = i.code_bytes ∙ first_code_bytes halves at i.placement;
-      memory = i.memory;
-      entries = i.entries ∙ ap (entries_of (first_object halves ∷ [])) same_parts ∙ first_entries halves at.base i.placement.base_even;
-      fits = subst (λ (b : List ℕ). length b ≤ at.room) (first_code_bytes halves at i.placement) i.can.code_fits;
+      bytes_are = i.code_bytes ∙ lone_code_bytes bytes more idle at p;
+      memory = i.memory ∙ ap (λ (b : List ℕ). record { base = at.base + at.room; cells = map bare b }) (lone_data_bytes bytes more idle at p);
+      entries = i.entries ∙ ap (entries_of (lone_object bytes more ∷ [])) same_parts ∙ lone_entries bytes more idle at p;
+      fits = subst (λ (b : List ℕ). length b ≤ at.room) (lone_code_bytes bytes more idle at p) i.can.code_fits;
       end_fits = omega (arith, i.can.end_fits);
     }
 
+pub first_formed : (halves : List ℕ) (at : Placement) (image : Image) → IsImage (first_object halves ∷ []) at image → IsFormed at (code_bytes halves) image
+first_formed halves = lone_formed (code_bytes halves) [] none_idle
+
 pub hard_formed : (halves : List ℕ) (at : Placement) (image : Image) → IsImage (hardened_object halves ∷ []) at image → IsFormed at (code_bytes (doubled halves)) image
-hard_formed halves at image i =
-    let same_parts = i.parts ∙ hard_parts halves at i.placement in
-    record {
-      placement = i.placement;
-      parts = same_parts;
-      base = i.code_base;
-      bytes_are = i.code_bytes ∙ hard_code_bytes halves at i.placement;
-      memory = i.memory;
-      entries = i.entries ∙ ap (entries_of (hardened_object halves ∷ [])) same_parts ∙ hard_entries halves at.base i.placement.base_even;
-      fits = subst (λ (b : List ℕ). length b ≤ at.room) (hard_code_bytes halves at i.placement) i.can.code_fits;
-      end_fits = omega (arith, i.can.end_fits);
-    }
+hard_formed halves = lone_formed (code_bytes (doubled halves)) (map_section (rows_of halves) ∷ []) (map_idle (rows_of halves))
 
 -- a name that has an entry is the function's
 pub entry_is : (at : Placement) (bytes : List ℕ) (image : Image) → IsFormed at bytes image → (name : List ℕ) (entry : ℕ) → entry_of image.entries name ≡ Some entry → (entry ≡ at.base + 1) × (name ≡ codes "f")

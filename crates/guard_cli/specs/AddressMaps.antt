@@ -1,11 +1,11 @@
 -- Where the map of a hardened object takes addresses of the plain one, and what is the same up to that.
-use Rattle.std.specs.Prelude.{◌≡◌, ◌<◌, ◌≤◌, ◌⊎◌, ℕ, ◌+◌, ◌-◌, ◌*◌, ◌%◌, ◌^◌, true, List, length, Option, Some, None, slice_get, get_or, Contains}
+use Rattle.std.specs.Prelude.{◌≡◌, ◌<◌, ◌≤◌, ◌⊎◌, ℕ, ◌+◌, ◌-◌, ◌%◌, ◌^◌, true, List, length, Option, Some, None, slice_get, get_or, Contains}
 use Rattle.elf_model.specs.declared.objects.MapRow.{MapRow}
 use Rattle.elf_model.specs.declared.objects.RowKind.{RowKind}
 use Rattle.elf_model.specs.declared.objects.RowKind.TheVariants as row
 use Rattle.elf_model.specs.Objects.{is_code}
 use Rattle.guard_cli.specs.Marks.{Mark, Plain, Entry, Return, Low, Word, Piece, Cell, byte_of, bare}
-use Rattle.guard_cli.specs.States.{Core, State, read}
+use Rattle.guard_cli.specs.States.{State, read}
 use Rattle.guard_cli.specs.Images.{Image, Part, even}
 
 -- a code section that holds an address

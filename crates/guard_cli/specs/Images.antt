@@ -1,5 +1,5 @@
 -- The image of objects that are placed in memory: code from a base on, then data.
-use Rattle.std.specs.Prelude.{◌≡◌, ◌≢◌, ◌<◌, ◌≤◌, ◌⊎◌, ◌↔◌, ℕ, zero, suc, ◌+◌, ◌-◌, ◌*◌, ◌%◌, ◌^◌, ◌==◌, ◌&&◌, ◌||◌, nat_lt, not, max, Bool, true, false, List, [], ◌∷◌, ◌++◌, length, map, replicate, filter, find, Option, Some, None, if◌then◌else◌, codes, All, Contains, slice_get, IsTrue}
+use Rattle.std.specs.Prelude.{◌≡◌, ◌<◌, ◌≤◌, ◌↔◌, ℕ, zero, suc, ◌+◌, ◌-◌, ◌%◌, ◌^◌, ◌==◌, ◌&&◌, ◌||◌, not, max, Bool, true, false, List, [], ◌∷◌, ◌++◌, length, map, replicate, filter, find, Option, Some, None, if◌then◌else◌, codes, All, Contains, slice_get}
 use Rattle.std.specs.Prelude.{nat_eq}
 use Rattle.std.specs.List.{starts_with}
 use Rattle.std.specs.List.Sorted.{IsStrictlyIncreasing}
@@ -11,8 +11,8 @@ use Rattle.elf_model.specs.Constants.{nobits, local, global, weak, notype, func}
 use Rattle.elf_model.specs.Fields.{same_name}
 use Rattle.elf_model.specs.Objects.{ObjectParts, is_code, is_alloc}
 use Rattle.elf_model.specs.Canonical.{round_up}
-use Rattle.guard_cli.specs.Marks.{Word, Cell, Plain, Return, plain, bare}
-use Rattle.guard_cli.specs.States.{CodeBytes, Memory, Core, State}
+use Rattle.guard_cli.specs.Marks.{Word, Cell, Return, plain, bare}
+use Rattle.guard_cli.specs.States.{CodeBytes, Memory, State}
 
 -- where code and data go: code from `base` on, in `room` bytes, then data, then `stack` bytes
 pub record Placement : Type 0 where

@@ -2,6 +2,10 @@ pub mod Words
 pub mod Output
 pub mod Texts
 pub mod Runs
+pub mod Commands
+pub mod Statuses
+pub mod HardenedFile
+pub mod Outcomes
 pub mod Marks
 pub mod Formulas
 pub mod Instructions
@@ -11,3 +15,4 @@ pub mod Schedules
 pub mod Images
 pub mod AddressMaps
 pub mod Hardened
+pub mod Promise

@@ -1,7 +1,7 @@
 -- The state of the machine, and what an instruction changes in it.
-use Rattle.std.specs.Prelude.{ℕ, ◌+◌, ◌-◌, ◌*◌, ◌/◌, ◌%◌, ◌^◌, ◌==◌, ◌&&◌, nat_le, not, Bool, true, false, List, [], ◌∷◌, length, Option, Some, None, Result, Ok, Err, if◌then◌else◌, slice_set, get_or}
+use Rattle.std.specs.Prelude.{ℕ, ◌+◌, ◌-◌, ◌*◌, ◌/◌, ◌%◌, ◌^◌, ◌==◌, ◌&&◌, not, Bool, true, false, List, [], ◌∷◌, Option, Some, None, Result, Ok, Err, if◌then◌else◌, slice_set, get_or}
 use Rattle.std.specs.List.{list_any}
-use Rattle.guard_cli.specs.Marks.{Mark, Plain, Entry, Return, Low, Word, Cell, plain}
+use Rattle.guard_cli.specs.Marks.{Mark, Word, Cell, plain}
 use Rattle.guard_cli.specs.Formulas.{Shift, Lsl, Shifted, shift_c, expand_imm}
 use Rattle.guard_cli.specs.Instructions.{Instr, Move, Jump, MoveOp, Mov, Mvn, Operand, Imm, Reg, BadInstr}
 

@@ -1,9 +1,9 @@
 -- A step of the machine, executed or skipped, and what makes it an ordinary one.
-use Rattle.std.specs.Prelude.{◌≡◌, ◌≢◌, ◌<◌, ◌⊎◌, ℕ, ◌+◌, ◌-◌, ◌*◌, ◌/◌, ◌%◌, ◌==◌, ◌&&◌, ◌||◌, nat_le, not, Bool, true, false, List, Option, Some, None, Result, Ok, Err, if◌then◌else◌, length, Contains, IsTrue}
+use Rattle.std.specs.Prelude.{◌≡◌, ◌≢◌, ◌<◌, ◌⊎◌, ℕ, ◌+◌, ◌-◌, ◌*◌, ◌/◌, ◌%◌, ◌==◌, ◌&&◌, ◌||◌, nat_le, not, Bool, true, false, Option, Some, None, Result, Ok, Err, if◌then◌else◌, length, Contains, IsTrue}
 use Rattle.elf_model.specs.Fields.{half_at}
 use Rattle.guard_cli.specs.Marks.{Mark, Plain, Entry, Return, Low, Word}
 use Rattle.guard_cli.specs.Instructions.{Instr, Move, Jump, MoveOp, Mov, Mvn, Operand, Imm, Reg, ItPlace, Outside, Inside, Last, Answer, is_wide, decode}
-use Rattle.guard_cli.specs.States.{CodeBytes, Core, State, at, read, FaultKind, BadFetch, BadCode, Outcome, Change, Exit, Falls, Jumps, Site, change, applied, unchanged, it_after, is_whole}
+use Rattle.guard_cli.specs.States.{CodeBytes, Core, State, at, read, FaultKind, BadFetch, BadCode, Outcome, Exit, Falls, Jumps, change, applied, unchanged, it_after, is_whole}
 
 -- the halfwords of an instruction, and its width in bytes
 pub record Fetched : Type 0 where
