@@ -1,5 +1,6 @@
 mod StringTables
 mod Laying
 mod Rows
+mod Sound
 mod Tables
 mod Relocated
