@@ -2,5 +2,6 @@ mod StringTables
 mod Laying
 mod Rows
 mod Sound
+mod Room
 mod Tables
 mod Relocated
