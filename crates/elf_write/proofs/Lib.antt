@@ -3,5 +3,6 @@ mod Laying
 mod Rows
 mod Sound
 mod Room
+mod Whole
 mod Tables
 mod Relocated

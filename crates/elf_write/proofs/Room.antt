@@ -143,7 +143,7 @@ tables_within o f s =
     let symbols = length-map o.symbols (λ (x : Symbol). x.name) in
     omega (arith, a, b, few, rows, names, heads, count, symbols)
 
-sections_within : (o : ObjectParts) → IsTrue (is_object o) → IsSmall o → sum_by weight (file_sections o) ≤ 2169528328
+sections_within : (o : ObjectParts) → IsTrue (is_object o) → IsSmall o → sum_by weight (file_sections o) ≤ 2169600000
 sections_within o h s =
     let f = object_facts o h in
     let own : List FileSection = map own_section o.sections in

@@ -31,5 +31,6 @@ pub fn write_object(alloc: Global, o: &Object) -> Result<Vec<u8>, AllocError>
     let tables = reloc_tables(alloc, o.sections().len(), o.relocs())?;
     let symtab = symtab_number(o, &tables);
     let layout = lay_out(alloc, o, &tables, symtab)?;
-    whole_file(alloc, &layout, symtab, o.flags() as usize)
+    let file = whole_file(alloc, &layout, symtab, o.flags() as usize)?;
+    Ok(file)
 }
