@@ -8,7 +8,7 @@ use Rattle.elf_model.specs.Files.{StandsFor}
 use Rattle.elf_model.specs.Fits.{RelocFits}
 use Rattle.elf_model.proofs.Stands.{stands}
 use Rattle.elf_write.proofs.Sound.{all_placed}
-use Rattle.elf_write.proofs.Room.{small, fits}
+use Rattle.elf_write.proofs.Bounds.{small, fits}
 use Rattle.elf_write.proofs.Whole.{whole_is}
 use Rattle.elf_write.proofs.write_object.Goals as goal
 
