@@ -68,11 +68,11 @@ step d n ds = elim (cases_Bool (same_name d n)) [
   ]
   | inr w ↦ elim (cases_Bool (among ds n)) [
     | inl a ↦ ap (λ (t : Bool). d ∷ others d (if t then ds else ds ++ n ∷ [])) a
-      ∙ sym (ap (λ (t : Bool). if t || among (others d ds) n then d ∷ others d ds else d ∷ others d ds ++ n ∷ []) w
-      ∙ ap (λ (t : Bool). if t then d ∷ others d ds else d ∷ others d ds ++ n ∷ []) (others_among d n w ds ∙ a))
+        ∙ sym (ap (λ (t : Bool). if t || among (others d ds) n then d ∷ others d ds else d ∷ others d ds ++ n ∷ []) w
+        ∙ ap (λ (t : Bool). if t then d ∷ others d ds else d ∷ others d ds ++ n ∷ []) (others_among d n w ds ∙ a))
     | inr a ↦ ap (λ (t : Bool). d ∷ others d (if t then ds else ds ++ n ∷ [])) a ∙ ap (λ (l : List (List ℕ)). d ∷ l) (others_new d n w ds)
-      ∙ sym (ap (λ (t : Bool). if t || among (others d ds) n then d ∷ others d ds else d ∷ others d ds ++ n ∷ []) w
-      ∙ ap (λ (t : Bool). if t then d ∷ others d ds else d ∷ others d ds ++ n ∷ []) (others_among d n w ds ∙ a))
+        ∙ sym (ap (λ (t : Bool). if t || among (others d ds) n then d ∷ others d ds else d ∷ others d ds ++ n ∷ []) w
+        ∙ ap (λ (t : Bool). if t then d ∷ others d ds else d ∷ others d ds ++ n ∷ []) (others_among d n w ds ∙ a))
   ]
 ]
 
@@ -164,8 +164,7 @@ pub old_added : (t : Names) (names : List (List ℕ)) (n : List ℕ) (p : ℕ) �
     → IsTable t (names ++ n ∷ []) × (p ≡ name_offset (names ++ n ∷ []) n)
 old_added t names n p e at h =
     let there = found_some 1 (different names) n p (sym (looked_up (λ k. k.items) t.places.entries n ∙ ap (λ (l : List (List ℕ × ℕ)). found l n) h.offsets) ∙ at) in
-    let same : different (names ++ n ∷ []) ≡ different names = pushed names n e ∙ ap (λ (b : Bool). if b then different names else different names ++ n ∷ []) there.0 in
-    (
+    let same : different (names ++ n ∷ []) ≡ different names = pushed names n e ∙ ap (λ (b : Bool). if b then different names else different names ++ n ∷ []) there.0 in (
       record { bytes = h.bytes ∙ sym (ap (λ (l : List (List ℕ)). 0 ∷ with_nuls l) same); offsets = h.offsets ∙ sym (ap (placed 1) same) },
       there.1 ∙ sym (placed_name (names ++ n ∷ []) n e ∙ ap (λ (l : List (List ℕ)). offset_among 1 l n) same),
     )
@@ -177,8 +176,7 @@ new_added t u names n e at text places h =
     let ds : List (List ℕ) = different names in
     let new = found_none 1 ds n (sym (looked_up (λ k. k.items) t.places.entries n ∙ ap (λ (l : List (List ℕ × ℕ)). found l n) h.offsets) ∙ at) in
     let more : different (names ++ n ∷ []) ≡ ds ++ n ∷ [] = pushed names n e ∙ ap (λ (b : Bool). if b then ds else ds ++ n ∷ []) new in
-    let long : length t.text.items ≡ 1 + length (with_nuls ds) = let l = ap length h.bytes in omega (arith, l) in
-    (
+    let long : length t.text.items ≡ 1 + length (with_nuls ds) = let l = ap length h.bytes in omega (arith, l) in (
       record {
         bytes = text ∙ ap (λ (l : List ℕ). (l ++ n) ++ 0 ∷ []) h.bytes ∙ append_assoc (string_table names) n (0 ∷ [])
             ∙ sym (ap (λ (l : List (List ℕ)). 0 ∷ with_nuls l) more ∙ ap (λ (l : List ℕ). 0 ∷ l) (flat_map-append (λ m. m ++ 0 ∷ []) ds (n ∷ []) ∙ ap (λ (l : List ℕ). with_nuls ds ++ l) (append-nil (n ++ 0 ∷ []))));

@@ -46,7 +46,10 @@ fn put_row(rows: &mut Vec<u8>, name: usize, start: usize, head: &Head) -> Result
     ensures { OnOk result (rows.new.items ≡ rows.old.items ++ row_with name start (file_section [] head.now [])) }
 {
     put_words(rows, &[name, head.kind, head.flags, 0, start])?;
-    put_words(rows, &[head.size, head.link, head.info, head.align, head.entry])
+    put_words(
+        rows,
+        &[head.size, head.link, head.info, head.align, head.entry],
+    )
 }
 
 /// Puts a section whose name has this offset.

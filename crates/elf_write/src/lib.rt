@@ -14,6 +14,8 @@ mod relocs;
 mod room;
 mod sections;
 mod symbols;
+#[cfg(test)]
+mod tests;
 mod write;
 
 use elf_model::{Limit, Object};

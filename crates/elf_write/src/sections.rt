@@ -7,7 +7,7 @@ ghost use Rattle.elf_model.specs.Canonical.{FileSection, section_names, own_sect
 ghost use Rattle.elf_model.specs.Fits.{SectionFits, SymbolFits};
 ghost use Rattle.elf_write.specs.Writing.{IsWritten, IsLaid, IsTable, added, row_with, front_sections, file_section, rel_head, rel_sections, reloc_table, text_section};
 
-use crate::layout::{put, put_named, Head, Layout};
+use crate::layout::{Head, Layout, put, put_named};
 use crate::names::Names;
 use crate::symbols::{locals, symbol_rows};
 use elf_model::{Bytes, Object, Section, Symbol};
@@ -41,7 +41,14 @@ pub(crate) fn put_own(
     ensures fit { OnOk result (All SectionFits sections.now) }
 {
     for s in sections {
-        put_named(alloc, layout, names, s.name.bytes(), &own_head(s), s.bytes.as_slice())?;
+        put_named(
+            alloc,
+            layout,
+            names,
+            s.name.bytes(),
+            &own_head(s),
+            s.bytes.as_slice(),
+        )?;
     }
     Ok(())
 }

@@ -10,7 +10,7 @@ ghost use Rattle.elf_model.specs.Canonical.{file_header, file_sections, section_
 ghost use Rattle.elf_write.specs.Writing.{IsLaid, IsTable, IsWritten, reloc_table, whole_file};
 
 use crate::fields::{put_halves, put_words, put_zeros};
-use crate::layout::{round_up, Layout};
+use crate::layout::{Layout, round_up};
 use crate::names::Names;
 use crate::relocs::filled;
 use crate::sections::{put_own, put_relocs, put_tables};
