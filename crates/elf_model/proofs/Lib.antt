@@ -1,17 +1,17 @@
 pub mod Rising
 mod Examples
 mod FieldsRead
-mod Laid
-mod FileRead
-mod Strings
-mod Lists
-mod Sections
-mod Written
+pub mod Laid
+pub mod FileRead
+pub mod Strings
+pub mod Lists
+pub mod Sections
+pub mod Written
 mod Headers
 mod Kept
-mod Symbols
-mod Sorted
-mod Relocs
+pub mod Symbols
+pub mod Sorted
+pub mod Relocs
 mod Tables
 mod OneObject
 pub mod Stands
