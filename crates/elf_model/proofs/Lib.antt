@@ -13,5 +13,5 @@ mod Symbols
 mod Sorted
 mod Relocs
 mod Tables
-mod OneObject
+pub mod OneObject
 pub mod Stands

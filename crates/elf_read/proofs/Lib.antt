@@ -1,4 +1,0 @@
-pub mod Frame
-pub mod Moves
-pub mod Refusing
-pub mod Standing

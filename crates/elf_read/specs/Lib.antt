@@ -1,4 +1,2 @@
-pub mod FirstForm
-pub mod FirstFile
 pub mod Faults
 pub mod Headers

@@ -1,9 +1,9 @@
 use Rattle.std.proofs.Common.{◌&&◌, ◌+◌, ◌≤◌, ◌/◌, ap, sym, ◌∙◌, drop, get_or, length, arith}
 use Rattle.std.proofs.lemmas.Bool.{ne_eqb, eq-eqb}
-use Rattle.elf_read.specs.FirstFile.{are_moves}
-use Rattle.elf_read.proofs.Moves.{moves_more, moves_odd}
-use Rattle.elf_read.proofs.form.are_moves.Goals as goal
-use Rattle.elf_read.proofs.form.are_moves.Goals.{then-code-i-lt2-via-then-code-i-lt2, then-code-i-lt2-via-else-code-i-lt2+then-code-i-ne4}
+use Rattle.guard_cli.specs.FirstCode.{are_moves}
+use Rattle.guard_cli.proofs.Moves.{moves_more, moves_odd}
+use Rattle.guard_cli.proofs.first.are_moves.Goals as goal
+use Rattle.guard_cli.proofs.first.are_moves.Goals.{then-code-i-lt2-via-then-code-i-lt2, then-code-i-lt2-via-else-code-i-lt2+then-code-i-ne4}
 
 pub returns-then-code-i-lt2 : goal.returns-then-code-i-lt2
 returns-then-code-i-lt2 c =

@@ -8,21 +8,22 @@ use Rattle.std.proofs.Math.Seq.{take-append_seam, drop-append_seam}
 use Rattle.std.proofs.lemmas.List.Elements.{All-cons}
 use Rattle.std.proofs.lemmas.Slice.Eq.{bytes_eq-Decides}
 use Rattle.elf_model.specs.Fields.{half}
-use Rattle.elf_read.specs.FirstForm.{IsMove, code_bytes, return_half}
-use Rattle.elf_read.specs.FirstFile.{IsFirstBytes, are_moves, is_first_code}
+use Rattle.elf_model.specs.Objects.{ObjectParts}
+use Rattle.guard_cli.specs.FirstForm.{IsMove, code_bytes, return_half}
+use Rattle.guard_cli.specs.FirstCode.{IsFirstBytes, IsFirstWith, are_moves, is_first_code}
 
 -- numbers that are bytes
 abbrev pub AreBytes : List ℕ → Type 0
 AreBytes xs = (k : ℕ) → get_or xs k 0 < 256
 
-both : (a b : Bool) → a ≡ true → b ≡ true → (a && b) ≡ true
+pub both : (a b : Bool) → a ≡ true → b ≡ true → (a && b) ≡ true
 both a b h k = grind arith
 
-first_of_both : (a b : Bool) → (a && b) ≡ true → a ≡ true
+pub first_of_both : (a b : Bool) → (a && b) ≡ true → a ≡ true
 first_of_both true b h = refl
 first_of_both false b h = h
 
-second_of_both : (a b : Bool) → (a && b) ≡ true → b ≡ true
+pub second_of_both : (a b : Bool) → (a && b) ≡ true → b ≡ true
 second_of_both true b h = h
 second_of_both false b h = cc
 
@@ -136,3 +137,6 @@ moves_odd xs i h = at_drop_more are_moves xs i 0 (omega arith) ∙ at_drop_all (
 
 pub first_short : (code : List ℕ) → IsFirstBytes code → length code ≤ 65536
 first_short code f = let long : length code ≡ 2 * length f.halves = ap length f.bytes ∙ length-code f.halves in omega (arith, f.sound.short)
+
+pub with_short : (o : ObjectParts) (code : List ℕ) → IsFirstWith o code → length code ≤ 65536
+with_short o code f = first_short code (record { halves = f.halves; sound = f.sound; bytes = f.bytes })

@@ -1,18 +1,14 @@
--- The first form of a file: one function that moves numbers to registers and returns.
-use Rattle.std.specs.Prelude.{◌≡◌, ◌≤◌, ◌⊎◌, ℕ, ◌*◌, ◌/◌, ◌^◌, List, [], ◌∷◌, ◌++◌, length, take, codes, All, ⊤}
+-- The first form of an object: one function that moves numbers to registers and returns.
+use Rattle.std.specs.Prelude.{◌≡◌, ◌≤◌, ℕ, ◌*◌, ◌/◌, ◌^◌, List, [], ◌∷◌, ◌++◌, length, codes, All}
 use Rattle.std.specs.List.{flat_map}
 use Rattle.elf_model.specs.declared.objects.Section.{Section}
 use Rattle.elf_model.specs.declared.objects.Symbol.{Symbol}
 use Rattle.elf_model.specs.declared.objects.Home.TheVariants as home
 use Rattle.elf_model.specs.declared.refusals.Refusal.{Refusal}
-use Rattle.elf_model.specs.declared.refusals.Refusal.TheVariants.{NotElf, NotYet}
 use Rattle.elf_model.specs.declared.refusals.Spot.{Spot}
-use Rattle.elf_model.specs.declared.refusals.Deny.{Deny}
-use Rattle.elf_model.specs.declared.refusals.Deny.TheVariants.{NoMemory, Refused}
 use Rattle.elf_model.specs.Constants.{progbits, local, global, notype, func}
 use Rattle.elf_model.specs.Fields.{half}
 use Rattle.elf_model.specs.Objects.{ObjectParts}
-use Rattle.elf_model.specs.Canonical.{canonical}
 
 -- `movs` of a number below 256 to a register from r0 to r7: 00100 ddd i8 (ARMv7-M ARM, MOV immediate, T1)
 abbrev pub IsMove : ℕ → Type 0
@@ -56,24 +52,5 @@ first_object halves = record {
 abbrev pub IsFirstObject : ObjectParts → Type 0
 IsFirstObject o = (halves : List ℕ) × IsFirstCode halves × (o ≡ first_object halves)
 
--- a file of the first form: the canonical file of such an object
-abbrev pub HasFirstForm : List ℕ → Type 0
-HasFirstForm file = (o : ObjectParts) × IsFirstObject o × (file ≡ canonical o)
-
--- as long as a file header, and with the first bytes of the format (ELF header)
-pub record IsElf (file : List ℕ) : Type 0 where
-  pub long : 52 ≤ length file
-  pub magic : take 4 file ≡ 0x7F ∷ 0x45 ∷ 0x4C ∷ 0x46 ∷ []
-
 abbrev pub at_start : Refusal → Spot
 at_start r = record { refusal = r; file = 0; section = 0; offset = 0 }
-
--- When a file is refused: it is no file of the format, or one that is not of the first form.
-abbrev pub IsRefusalOf : List ℕ → Spot → Type 0
-IsRefusalOf file spot =
-    ((spot ≡ at_start NotElf) × (IsElf file → ⊥)) ⊎ ((spot ≡ at_start NotYet) × IsElf file × (HasFirstForm file → ⊥))
-
--- What comes in an object's place; memory may run out at any time.
-abbrev pub IsDenied : List ℕ → Deny → Type 0
-IsDenied file NoMemory = ⊤
-IsDenied file (Refused spot) = IsRefusalOf file spot
