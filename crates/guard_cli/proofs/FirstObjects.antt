@@ -82,7 +82,7 @@ first_from_tests o s lone text code rest =
     let some = first_of_both _ _ rest in
     let sections : o.sections ≡ text_section (code_bytes halves) ∷ [] = lone ∙ ap (λ (x : Section). x ∷ []) same in
     let symbols : o.symbols ≡ code_symbol ∷ function_symbol (length (code_bytes halves)) ∷ [] =
-        symbols_are s.size o.symbols (first_of_both _ _ some) ∙ ap (λ (n : ℕ). code_symbol ∷ function_symbol n ∷ []) size
+    symbols_are s.size o.symbols (first_of_both _ _ some) ∙ ap (λ (n : ℕ). code_symbol ∷ function_symbol n ∷ []) size
     in
     let relocs : o.relocs ≡ [] = none_are o.relocs (second_of_both _ _ some) in
     let flags : o.flags ≡ 0x05000000 = eqb-true o.flags 0x05000000 (second_of_both _ _ rest) in

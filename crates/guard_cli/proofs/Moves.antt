@@ -114,6 +114,9 @@ AreBytes-take (x ∷ xs) (suc n) bytes (suc k) = AreBytes-take xs n (λ j. bytes
 pub AreBytes-drop : (xs : List ℕ) (n : ℕ) → AreBytes xs → AreBytes (drop n xs)
 AreBytes-drop xs n bytes = λ k. rw get_or-drop (bytes (n + k))
 
+leb_holds : (a b : ℕ) → leb a b ≡ true → a ≤ b
+leb_holds a b h = grind (arith, nat_tests)
+
 -- bytes that pass are those of moves and a return
 pub first_from_test : (code : List ℕ) → is_first_code code ≡ true → AreBytes code → IsFirstBytes code
 first_from_test code h bytes =
@@ -121,8 +124,7 @@ first_from_test code h bytes =
     let back = (bytes_eq-Decides _ _).0 (second_of_both _ _ h) in
     let n = length code - 2 in
     let moves = moves_from (take n code) (second_of_both _ _ front) (AreBytes-take code n bytes) in
-    let few : leb (length code) 65536 ≡ true = second_of_both _ _ (first_of_both _ _ front) in
-    let short : length code ≤ 65536 = grind (arith, nat_tests) in
+    let short = leb_holds (length code) 65536 (second_of_both _ _ (first_of_both _ _ front)) in
     first_from_moves code (take n code) moves short (sym (take-append-drop n code) ∙ ap (λ x. take n code ++ x) back)
 
 -- one step of the test along the bytes

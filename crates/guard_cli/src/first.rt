@@ -70,7 +70,9 @@ fn is_text(section: &Section) -> bool
 fn has_first_rest(object: &Object, size: u32) -> bool
     ensures { result ≡ has_first_rest size object.now }
 {
-    are_symbols(object.symbols(), size) && object.relocs().is_empty() && object.flags() == 0x0500_0000
+    are_symbols(object.symbols(), size)
+        && object.relocs().is_empty()
+        && object.flags() == 0x0500_0000
 }
 
 /// Whether the symbols are those of one function of this size.
