@@ -1,3 +1,4 @@
+pub mod Formats
 pub mod Frame
 pub mod Moves
 pub mod Refusing

@@ -143,3 +143,7 @@ IsFaultless b l = (r : Refusal) (section offset : ℕ) → Fault b l r section o
 -- how many sections are left out
 abbrev pub dropped_count : List ℕ → ℕ
 dropped_count b = length (filter (λ h. not (is_table (header b h).kind) && is_dropped b h) (headers b))
+
+-- no fault with a number below n
+abbrev pub IsFaultlessBelow : List ℕ → Limit → ℕ → Type 0
+IsFaultlessBelow b l n = (r : Refusal) (section offset : ℕ) → number_of r < n → Fault b l r section offset → ⊥

@@ -8,7 +8,9 @@ ghost use Rattle.elf_read.specs.FirstForm.{IsFirstObject, IsDenied, at_start};
 
 mod file;
 mod form;
+mod format;
 mod headers;
+mod places;
 #[cfg(test)]
 mod tests;
 
