@@ -2,4 +2,5 @@ pub mod FirstForm
 pub mod FirstFile
 pub mod Faults
 pub mod Headers
+pub mod Keeping
 pub mod Places

@@ -10,6 +10,8 @@ mod file;
 mod form;
 mod format;
 mod headers;
+mod keeping;
+mod kinds;
 mod places;
 #[cfg(test)]
 mod tests;
