@@ -1,4 +1,6 @@
+pub mod FirstTests
 pub mod Formats
+pub mod TableFaults
 pub mod Frame
 pub mod Moves
 pub mod Refusing

@@ -3,3 +3,4 @@ pub mod FirstFile
 pub mod Faults
 pub mod Headers
 pub mod Places
+pub mod HeaderFaults

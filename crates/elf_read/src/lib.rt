@@ -11,6 +11,7 @@ mod form;
 mod format;
 mod headers;
 mod places;
+mod tables;
 #[cfg(test)]
 mod tests;
 
