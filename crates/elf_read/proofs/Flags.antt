@@ -1,13 +1,14 @@
 -- Lists of flags over the numbers from one on.
-use Rattle.std.proofs.Common.{◌≡◌, ◌≤◌, ◌<◌, ℕ, zero, suc, ◌+◌, ◌-◌, ◌*◌, Bool, true, false, cond, ◌||◌, List, [], ◌∷◌, ◌++◌, length, get_or, take, append_assoc, refl, sym, ap, ◌∙◌, subst, inl, inr, ◌⊎◌, arith, map, filter}
+use Rattle.std.proofs.Common.{◌≡◌, ◌≤◌, ◌<◌, ℕ, zero, suc, ◌+◌, ◌-◌, ◌*◌, ◌/◌, Bool, true, false, cond, ◌||◌, List, [], ◌∷◌, ◌++◌, length, get_or, take, append_assoc, refl, sym, ap, ◌∙◌, subst, inl, inr, ◌⊎◌, arith, map, filter}
 use Rattle.std.specs.Prelude.{count_by, find, nat_lt, ◌==◌, None, Some}
 use Rattle.std.specs.List.{list_any}
 use Rattle.std.proofs.lemmas.Bool.{cases_lt, cases_eq, lt-ltb, le-ltb, eq-eqb, ne_eqb}
 use Rattle.std.proofs.lemmas.List.{map-append}
 use Rattle.elf_model.specs.Constants.{undefined_index, absolute_index}
 use Rattle.elf_model.specs.Fields.{half_at}
-use Rattle.elf_model.specs.Files.{from, header, headers, kept_headers, is_kept, is_kept_symbol, symbol_table, symbol_places}
+use Rattle.elf_model.specs.Files.{from, header, header_count, headers, kept_headers, is_kept, is_kept_symbol, symbol_table, symbol_places}
 use Rattle.elf_model.proofs.Lists.{from-append, count_cons, find_from, map-map}
+use Rattle.elf_read.specs.Faults.{IsHeader}
 use Rattle.elf_read.specs.Keeping.{kept_flags, symbol_flags, flag_at}
 
 pub from_more : (first n : ℕ) → from first (n + 1) ≡ from first n ++ (first + n) ∷ []
@@ -81,3 +82,23 @@ pub some_symbol_flags : (b : List ℕ) (t : ℕ) → symbol_table b ≡ Some t �
 some_symbol_flags b t e =
     ap (λ (xs : List Bool). false ∷ xs) (sym (map-map (is_kept_symbol b) (λ k. (header b t).offset + 16 * k) (from 1 ((header b t).size / 16 - 1))))
     ∙ ap (λ (t : _). false ∷ map (is_kept_symbol b) (symbol_places b t)) (sym e)
+
+pub symbol_flags_made : (b : List ℕ) (t at n : ℕ) (new old first : List Bool) → new ≡ old ++ map (λ k. is_kept_symbol b (at + 16 * k)) (from 1 (n - 1)) → old ≡ first ++ false ∷ [] → first ≡ []
+    → at ≡ (header b t).offset → n ≡ (header b t).size / 16 → symbol_table b ≡ Some t → new ≡ symbol_flags b
+symbol_flags_made b t at n new old first made o f place many found =
+    made ∙ ap (λ (xs : List Bool). xs ++ map (λ k. is_kept_symbol b (at + 16 * k)) (from 1 (n - 1))) (o ∙ ap (λ (xs : List Bool). xs ++ false ∷ []) f)
+    ∙ ap (λ (p : ℕ). (false ∷ []) ++ map (λ k. is_kept_symbol b (p + 16 * k)) (from 1 (n - 1))) place
+    ∙ ap (λ (m : ℕ). (false ∷ []) ++ map (λ k. is_kept_symbol b ((header b t).offset + 16 * k)) (from 1 (m - 1))) many ∙ some_symbol_flags b t found
+
+get_made : {X : Type 0} (f : ℕ → X) (first n j : ℕ) (d : X) → j < n → get_or (map f (from first n)) j d ≡ f (first + j)
+get_made f first zero j d l = absurd (omega arith)
+get_made f first (suc n) zero d l = let s : first ≡ first + 0 = omega arith in ap f s
+get_made f first (suc n) (suc j) d l = let s : (first + 1) + j ≡ first + suc j = omega arith in get_made f (first + 1) n j d (omega arith) ∙ ap f s
+
+flag_made : (p : ℕ → Bool) (n i : ℕ) → 0 < i → i < n → get_or (false ∷ map p (from 1 (n - 1))) i false ≡ p i
+flag_made p n zero l u = absurd (omega arith)
+flag_made p n (suc i) l u = let s : 1 + i ≡ suc i = omega arith in get_made p 1 (n - 1) i false (omega arith) ∙ ap p s
+
+-- the flag of a header
+pub flag_is : (b : List ℕ) (h : ℕ) → IsHeader b h → flag_at (kept_flags b) h ≡ is_kept b h
+flag_is b h i = flag_made (is_kept b) (header_count b) h i.behind_null i.there

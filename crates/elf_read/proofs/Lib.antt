@@ -1,6 +1,11 @@
+pub mod FirstTests
 pub mod Flags
 pub mod Formats
 pub mod Frame
+pub mod Lowest
 pub mod Moves
 pub mod Refusing
 pub mod Standing
+pub mod TableFaults
+pub mod Limits
+pub mod KindFaults

@@ -1,10 +1,12 @@
 -- What is kept of a file, as tables over the numbers of headers and of symbols.
-use Rattle.std.specs.Prelude.{◌≡◌, ◌<◌, ◌≤◌, ◌⊎◌, ℕ, ◌+◌, ◌-◌, ◌*◌, ◌/◌, ◌&&◌, ◌==◌, Bool, true, false, List, ◌∷◌, [], length, map, take, filter, Some, None, slice_index, count_by}
+use Rattle.std.specs.Prelude.{◌≡◌, ◌<◌, ◌≤◌, ◌⊎◌, ℕ, ◌+◌, ◌-◌, ◌*◌, ◌/◌, ◌&&◌, ◌==◌, ◌||◌, not, if◌then◌else◌, Bool, true, false, List, ◌∷◌, [], length, map, take, filter, Some, None, slice_index, count_by}
 use Rattle.std.specs.List.{slice_index_or, flat_map}
-use Rattle.elf_model.specs.Constants.{symtab}
-use Rattle.elf_model.specs.Fields.{half_at}
-use Rattle.elf_model.specs.Files.{header, header_count, headers, is_kept, is_kept_symbol, symbol_places, symbol_table, is_reloc_table, HasTables, from, entries_of}
-use Rattle.elf_read.specs.Faults.{IsSymbolAt, names_no_section}
+use Rattle.elf_model.specs.Constants.{symtab, rel, nobits}
+use Rattle.elf_model.specs.Fields.{half_at, same_name}
+use Rattle.elf_model.specs.Objects.{is_alloc, is_exec, is_writable}
+use Rattle.elf_model.specs.Maps.{map_name}
+use Rattle.elf_model.specs.Files.{header, header_count, section_name, is_table, is_dropped, is_refused_kind, headers, is_kept, is_kept_symbol, symbol_places, symbol_table, is_reloc_table, HasTables, from, entries_of}
+use Rattle.elf_read.specs.Faults.{IsSymbolAt, names_no_section, is_code_header, is_memory_kind}
 
 -- for each header whether its section is kept; the null header is not
 abbrev pub kept_flags : List ℕ → List Bool
@@ -22,11 +24,28 @@ pub record AreCounts (flags : List Bool) (counts : List ℕ) : Type 0 where
   pub long : length counts ≡ length flags
   pub each : (k : ℕ) → k < length flags → slice_index counts k ≡ count_by (λ (x : Bool). x) (take k flags)
 
--- the file's tables are as the format wants them
-pub record IsReadable (b : List ℕ) : Type 0 where
-  pub long : 52 ≤ length b
-  pub tables : HasTables b
-
 -- each symbol names a section, or none
 abbrev pub HasHomes : List ℕ → Type 0
 HasHomes b = (t k e : ℕ) → IsSymbolAt b t k e → (names_no_section (half_at b (e + 14)) ≡ true) ⊎ (half_at b (e + 14) < header_count b)
+
+-- what a header adds to what the limit is about
+abbrev pub is_kept_relocs : List ℕ → ℕ → Bool
+is_kept_relocs b h = ((header b h).kind == rel) && is_kept b (header b h).info
+
+abbrev pub relocs_at : List ℕ → ℕ → ℕ
+relocs_at b h = if is_kept_relocs b h then (header b h).size / 8 else 0
+
+abbrev pub code_at : List ℕ → ℕ → ℕ
+code_at b h = if is_code_header b h then (header b h).size else 0
+
+abbrev pub symbols_at : List ℕ → ℕ → ℕ
+symbols_at b h = if (header b h).kind == symtab then (header b h).size / 16 - 1 else 0
+
+-- A section header's fields of a kind that isn't handled, by their offset from its start; `input`: the
+-- limit is that of `harden`.
+abbrev pub kind_tests : List ℕ → Bool → ℕ → List (ℕ × Bool)
+kind_tests b input h =
+    (0, input && same_name (section_name b h) map_name)
+    ∷ (4, is_refused_kind (header b h).kind || (is_alloc (header b h).flags && (not (is_memory_kind (header b h).kind) && (is_table (header b h).kind || not (is_dropped b h)))))
+    ∷ (8, is_exec (header b h).flags && (is_writable (header b h).flags || ((header b h).kind == nobits)))
+    ∷ []

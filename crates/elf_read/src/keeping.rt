@@ -5,11 +5,13 @@ ghost use Rattle.std.specs.Prelude.{◌≢◌, drop, IfSome};
 ghost use Rattle.std.specs.List.{before_first};
 ghost use Rattle.elf_model.specs.Constants.{symtab, strtab, nobits};
 ghost use Rattle.elf_model.specs.Files.{header, header_count, contents, is_dropped, is_kept, is_kept_symbol, text_at, section_name, symbol_table, from, IsKind};
-ghost use Rattle.elf_read.specs.Keeping.{kept_flags, symbol_flags, flag_at, AreCounts, IsReadable};
+ghost use Rattle.elf_read.specs.Keeping.{kept_flags, symbol_flags, flag_at, AreCounts};
+ghost use Rattle.elf_read.specs.HeaderFaults.{IsTabled};
 ghost use Rattle.elf_read.specs.Faults.{IsHeader};
 
 use crate::headers::{Header, count, half, header_at};
-use crate::kinds::{ARM_EXIDX, SYMTAB, is_alloc, is_dropped_name, is_kept_kind, is_refused_kind, is_table};
+use crate::tables::SYMTAB;
+use crate::kinds::{ARM_EXIDX, is_alloc, is_dropped_name, is_kept_kind, is_refused_kind, is_table};
 use std::alloc::{AllocError, Global};
 
 /// The text up to a NUL, or all of it where there is none.
@@ -26,7 +28,7 @@ fn until_nul(text: &[u8]) -> &[u8]
 
 /// The contents of a section that has bytes in the file.
 fn contents(bytes: &[u8], h: usize) -> &[u8]
-    requires readable { IsReadable bytes.now }
+    requires tabled { IsTabled bytes.now }
     requires listed { IsHeader bytes.now h }
     requires stored { (header bytes.now h).kind ≢ nobits }
     ensures { result.now ≡ contents bytes.now h }
@@ -45,7 +47,7 @@ fn behind(text: &[u8], at: usize) -> &[u8]
 
 /// The text at an offset of a string table, up to its NUL or to the table's end.
 pub(crate) fn text_at(bytes: &[u8], table: usize, at: usize) -> &[u8]
-    requires readable { IsReadable bytes.now }
+    requires tabled { IsTabled bytes.now }
     requires listed { IsHeader bytes.now table }
     requires stored { (header bytes.now table).kind ≢ nobits }
     ensures { result.now ≡ text_at bytes.now table at }
@@ -55,7 +57,7 @@ pub(crate) fn text_at(bytes: &[u8], table: usize, at: usize) -> &[u8]
 
 /// The name of a section.
 pub(crate) fn section_name(bytes: &[u8], h: usize) -> &[u8]
-    requires readable { IsReadable bytes.now }
+    requires tabled { IsTabled bytes.now }
     requires listed { h < header_count bytes.now }
     ensures { result.now ≡ section_name bytes.now h }
 {
@@ -64,7 +66,7 @@ pub(crate) fn section_name(bytes: &[u8], h: usize) -> &[u8]
 
 /// Whether a section is left out, with its symbols and relocations.
 pub(crate) fn is_dropped(bytes: &[u8], h: usize) -> bool
-    requires readable { IsReadable bytes.now }
+    requires tabled { IsTabled bytes.now }
     requires listed { h < header_count bytes.now }
     ensures { result ≡ is_dropped bytes.now h }
 {
@@ -77,7 +79,7 @@ pub(crate) fn is_dropped(bytes: &[u8], h: usize) -> bool
 
 /// Whether a section becomes one of the object.
 pub(crate) fn is_kept(bytes: &[u8], h: usize) -> bool
-    requires readable { IsReadable bytes.now }
+    requires tabled { IsTabled bytes.now }
     requires listed { h < header_count bytes.now }
     ensures { result ≡ is_kept bytes.now h }
 {
@@ -86,7 +88,7 @@ pub(crate) fn is_kept(bytes: &[u8], h: usize) -> bool
 
 /// For each header whether its section is kept.
 pub(crate) fn kept_flags(alloc: Global, bytes: &[u8]) -> Result<Vec<bool>, AllocError>
-    requires { IsReadable bytes.now }
+    requires { IsTabled bytes.now }
     ensures { IfOk result (λ v. v.items ≡ kept_flags bytes.now) }
 {
     let mut flags = Vec::new(alloc);
@@ -99,7 +101,7 @@ pub(crate) fn kept_flags(alloc: Global, bytes: &[u8]) -> Result<Vec<bool>, Alloc
 
 /// The symbol table, if there is one.
 pub(crate) fn symtab_of(bytes: &[u8]) -> Option<usize>
-    requires { IsReadable bytes.now }
+    requires { IsTabled bytes.now }
     ensures found { result ≡ symbol_table bytes.now }
     ensures kind { IfSome result (λ t. IsKind bytes.now t symtab) }
 {
@@ -152,7 +154,7 @@ pub(crate) fn symbol_flags(
     bytes: &[u8],
     kept: &[bool],
 ) -> Result<Vec<bool>, AllocError>
-    requires readable { IsReadable bytes.now }
+    requires tabled { IsTabled bytes.now }
     requires kept { kept.now ≡ kept_flags bytes.now }
     ensures { IfOk result (λ v. v.items ≡ symbol_flags bytes.now) }
 {

@@ -5,19 +5,13 @@ ghost use Rattle.elf_model.specs.Objects.{is_alloc, is_writable, is_exec, is_dro
 ghost use Rattle.elf_model.specs.Files.{is_table, is_refused_kind};
 ghost use Rattle.elf_read.specs.Faults.{is_memory_kind};
 
+use crate::tables::{NOBITS, REL, STRTAB, SYMTAB};
+
 pub(crate) const PROGBITS: u32 = 1;
-
-pub(crate) const SYMTAB: u32 = 2;
-
-const STRTAB: u32 = 3;
 
 const RELA: u32 = 4;
 
 const NOTE: u32 = 7;
-
-pub(crate) const NOBITS: u32 = 8;
-
-pub(crate) const REL: u32 = 9;
 
 const INIT_ARRAY: u32 = 14;
 

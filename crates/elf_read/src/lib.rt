@@ -12,7 +12,10 @@ mod format;
 mod headers;
 mod keeping;
 mod kinds;
+mod limits;
 mod places;
+mod tables;
+mod unhandled;
 #[cfg(test)]
 mod tests;
 

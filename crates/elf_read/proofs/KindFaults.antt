@@ -1,0 +1,1 @@
+-- Sections of kinds that aren't handled.

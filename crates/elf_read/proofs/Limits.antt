@@ -1,0 +1,1 @@
+-- The numbers that the limit is about.
