@@ -7,5 +7,7 @@ pub mod Moves
 pub mod Refusing
 pub mod Standing
 pub mod TableFaults
-pub mod Limits
+pub mod LimitFaults
 pub mod KindFaults
+pub mod KeptSymbols
+pub mod BadRelocs

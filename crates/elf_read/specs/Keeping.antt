@@ -1,6 +1,7 @@
 -- What is kept of a file, as tables over the numbers of headers and of symbols.
-use Rattle.std.specs.Prelude.{◌≡◌, ◌<◌, ◌≤◌, ◌⊎◌, ℕ, ◌+◌, ◌-◌, ◌*◌, ◌/◌, ◌&&◌, ◌==◌, ◌||◌, not, if◌then◌else◌, Bool, true, false, List, ◌∷◌, [], length, map, take, filter, Some, None, slice_index, count_by}
+use Rattle.std.specs.Prelude.{◌≡◌, ◌<◌, ◌≤◌, ◌⊎◌, ℕ, ◌+◌, ◌-◌, ◌*◌, ◌/◌, ◌&&◌, ◌==◌, ◌||◌, not, if◌then◌else◌, Bool, true, false, List, ◌∷◌, [], length, map, take, filter, Some, None, slice_index, count_by, nat_lt}
 use Rattle.std.specs.List.{slice_index_or, flat_map}
+use Rattle.elf_model.specs.declared.refusals.Limit.{Limit}
 use Rattle.elf_model.specs.Constants.{symtab, rel, nobits}
 use Rattle.elf_model.specs.Fields.{half_at, same_name}
 use Rattle.elf_model.specs.Objects.{is_alloc, is_exec, is_writable}
@@ -49,3 +50,7 @@ kind_tests b input h =
     ∷ (4, is_refused_kind (header b h).kind || (is_alloc (header b h).flags && (not (is_memory_kind (header b h).kind) && (is_table (header b h).kind || not (is_dropped b h)))))
     ∷ (8, is_exec (header b h).flags && (is_writable (header b h).flags || ((header b h).kind == nobits)))
     ∷ []
+
+-- symbols, or the sums of relocations and of code, pass the limit
+abbrev pub passes : Limit → ℕ → ℕ → ℕ → Bool
+passes l symbols relocs code = nat_lt l.symbols symbols || (nat_lt l.relocs relocs || nat_lt l.code code)

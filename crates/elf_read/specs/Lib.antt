@@ -5,3 +5,4 @@ pub mod Headers
 pub mod Keeping
 pub mod Places
 pub mod HeaderFaults
+pub mod RelocFaults

@@ -120,6 +120,15 @@ pub(crate) fn flag(flags: &[bool], k: usize) -> bool
     k < flags.len() && flags[k]
 }
 
+/// Whether a header's section is kept, by the flags.
+pub(crate) fn kept_at(bytes: &[u8], kept: &[bool], h: usize) -> bool
+    requires listed { IsHeader bytes.now h }
+    requires kept { kept.now ≡ kept_flags bytes.now }
+    ensures { result ≡ is_kept bytes.now h }
+{
+    flag(kept, h)
+}
+
 /// Whether a symbol goes into the object.
 #[tactic(auto, using(crate::proofs::Flags::kept_symbol_is))]
 fn is_kept_symbol(bytes: &[u8], kept: &[bool], e: usize) -> bool

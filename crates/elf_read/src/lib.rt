@@ -14,6 +14,7 @@ mod keeping;
 mod kinds;
 mod limits;
 mod places;
+mod reloc_faults;
 mod tables;
 mod unhandled;
 #[cfg(test)]

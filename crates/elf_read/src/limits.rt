@@ -2,15 +2,16 @@
 
 ghost use Rattle.std.specs.Prelude.{◌≡◌, ◌<◌, ◌^◌, ℕ, length, ◌&&◌, ◌==◌};
 ghost use Rattle.elf_model.specs.declared.refusals.Refusal.TheVariants.{TooMany};
-ghost use Rattle.elf_model.specs.Constants.{rel};
+ghost use Rattle.elf_model.specs.Constants.{progbits, rel};
+ghost use Rattle.elf_model.specs.Objects.{is_alloc, is_exec};
 ghost use Rattle.elf_model.specs.Files.{header, header_count, is_kept};
 ghost use Rattle.elf_read.specs.Faults.{Fault, IsHeader, is_code_header};
 ghost use Rattle.elf_read.specs.HeaderFaults.{IsTabled};
-ghost use Rattle.elf_read.specs.Keeping.{kept_flags, is_kept_relocs, relocs_at, code_at, symbols_at};
+ghost use Rattle.elf_read.specs.Keeping.{kept_flags, is_kept_relocs, relocs_at, code_at, symbols_at, passes};
 ghost use Rattle.elf_read.specs.Places.{IsLowest};
 
 use crate::headers::{count, header_at, place};
-use crate::keeping::flag;
+use crate::keeping::kept_at;
 use crate::kinds::{PROGBITS, is_alloc, is_exec};
 use crate::places::Place;
 use crate::tables::{REL, SYMTAB};
@@ -24,7 +25,7 @@ pub(crate) fn is_kept_relocs(bytes: &[u8], kept: &[bool], h: usize) -> bool
     ensures { result ≡ is_kept_relocs bytes.now h }
 {
     let header = header_at(bytes, h);
-    header.kind == REL && flag(kept, header.info as usize)
+    header.kind == REL && kept_at(bytes, kept, header.info as usize)
 }
 
 /// How many relocations of sections that are kept a header has.
@@ -41,6 +42,12 @@ fn relocs_at(bytes: &[u8], kept: &[bool], h: usize) -> u32
     }
 }
 
+fn is_code(kind: u32, flags: u32) -> bool
+    ensures { result ≡ ((kind == progbits) && is_alloc flags && is_exec flags) }
+{
+    kind == PROGBITS && is_alloc(flags) && is_exec(flags)
+}
+
 /// Whether a header is one of code that is kept.
 fn is_code_header(bytes: &[u8], kept: &[bool], h: usize) -> bool
     requires tabled { IsTabled bytes.now }
@@ -49,7 +56,7 @@ fn is_code_header(bytes: &[u8], kept: &[bool], h: usize) -> bool
     ensures { result ≡ is_code_header bytes.now h }
 {
     let header = header_at(bytes, h);
-    header.kind == PROGBITS && is_alloc(header.flags) && is_exec(header.flags) && flag(kept, h)
+    is_code(header.kind, header.flags) && kept_at(bytes, kept, h)
 }
 
 /// How many bytes of code a header has.
@@ -80,6 +87,12 @@ fn symbols_at(bytes: &[u8], h: usize) -> u32
     }
 }
 
+fn passes(limit: &Limit, symbols: u32, relocs: u64, code: u64) -> bool
+    ensures { result ≡ passes limit.now symbols relocs code }
+{
+    symbols > limit.symbols || relocs > limit.relocs as u64 || code > limit.code as u64
+}
+
 /// The first place at which a number of the file passes the limit.
 pub(crate) fn first_too_many(bytes: &[u8], kept: &[bool], limit: &Limit) -> Option<Place>
     requires tabled { IsTabled bytes.now }
@@ -97,12 +110,11 @@ pub(crate) fn first_too_many(bytes: &[u8], kept: &[bool], limit: &Limit) -> Opti
     let mut relocs: u64 = 0;
     let mut code: u64 = 0;
     for h in 1..n {
+        let _most_relocs = limit.relocs;
+        let _most_code = limit.code;
         relocs += relocs_at(bytes, kept, h) as u64;
         code += code_at(bytes, kept, h) as u64;
-        if symbols_at(bytes, h) > limit.symbols
-            || relocs > limit.relocs as u64
-            || code > limit.code as u64
-        {
+        if passes(limit, symbols_at(bytes, h), relocs, code) {
             let offset = place(bytes, h) as u32 + 20;
             let section = h as u32;
             return Some(Place { section, offset });

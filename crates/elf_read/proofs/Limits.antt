@@ -1,1 +1,0 @@
--- The numbers that the limit is about.
