@@ -1,11 +1,11 @@
 -- Relocations that are wrong.
 use Rattle.std.proofs.Common.{◌≡◌, ◌≢◌, ◌≤◌, ◌<◌, ◌⊎◌, ℕ, ◌+◌, ◌-◌, ◌*◌, ◌/◌, ◌%◌, Bool, true, false, cond, not, ◌||◌, ◌&&◌, List, [], ◌∷◌, length, Option, Some, None, inl, inr, arith, refl, sym, ap, ◌∙◌, subst}
-use Rattle.std.specs.Prelude.{nat_lt, nat_le, ◌==◌, if◌then◌else◌}
+use Rattle.std.specs.Prelude.{nat_lt, nat_le, ◌==◌, if◌then◌else◌, is_some, IfNone}
 use Rattle.std.specs.declared.cmp.Ordering.{Ordering}
 use Rattle.std.specs.Ordering.{nat_cmp, ordering_then, is_eq}
 use Rattle.std.specs.declared.cmp.Ordering.TheVariants.{Less, Equal, Greater}
 use Rattle.std.specs.BTreeSet.{BTreeSet, contains}
-use Rattle.std.proofs.lemmas.Bool.{cases_lt, cases_eq, cases_order, cases_Bool, and_parts, and_from, or_cases, or_parts, or_left, or_right, eqb-true, eqb-false, eq-eqb, ne_eqb, lt-ltb, le-ltb, ltb-true, ltb-false, leb-true, leb-false, le-leb, lt-leb, not-true, not-false, not_from_false, not_from_true, both_ways, false≢true}
+use Rattle.std.proofs.lemmas.Bool.{cases_lt, cases_eq, cases_order, cases_Bool, and_parts, and_from, or_cases, or_parts, or_left, or_right, eqb-true, eqb-false, eq-eqb, ne_eqb, lt-ltb, le-ltb, ltb-true, ltb-false, leb-true, leb-false, le-leb, lt-leb, not-true, not-false, not_from_false, not_from_true, both_ways, false≢true, true≢false}
 use Rattle.elf_model.specs.declared.refusals.Limit.{Limit}
 use Rattle.elf_model.specs.declared.refusals.Refusal.TheVariants.{BadReloc}
 use Rattle.elf_model.specs.Constants.{rel, nobits}
@@ -14,6 +14,7 @@ use Rattle.elf_model.specs.Files.{header, header_count, header_place, is_kept, I
 use Rattle.elf_read.specs.declared.places.Place.{Place}
 use Rattle.elf_read.specs.Faults.{Fault, IsHeader, IsRelocAt, IsKeptSymbol, reloc_width}
 use Rattle.elf_read.specs.Faults.Fault.{bad_symbol, bad_place, second_place, nobits_target}
+use Rattle.elf_read.specs.HeaderFaults.{IsTabled}
 use Rattle.elf_read.specs.Keeping.{flag_at, symbol_flags, is_kept_relocs}
 use Rattle.elf_read.specs.Places.{IsLowest, lower_of, first_of}
 use Rattle.elf_read.specs.RelocFaults.{IsEarlier, pair_cmp, AreTaken, BadEntry, EntryFault, TargetFault, RelocFault, IsLowestIn, entry_tests}
@@ -110,14 +111,17 @@ module _ (b : List ℕ) where
     whole = λ p x. absurd (elim x.before [ inl l ↦ omega (arith, l, x.stands.table.0) | inr l ↦ omega (arith, l.1) ]);
   }
 
+  moved : (h j t o u v : ℕ) → t ≡ u → o ≡ v → IsEarlier b h j t o → IsEarlier b h j u v
+  moved h j t o u v e f x = record { g = x.g; i = x.i; q = x.q; before = x.before; stands = x.stands; of = x.of ∙ e; at = x.at ∙ f }
+
   -- one entry
 
-  module _ (h j r room : ℕ) (flags : List Bool) (added : Bool) (old : BTreeSet (ℕ × ℕ)) (stands : IsRelocAt b h j r) (taken : AreTaken b h j old) (wide : room ≡ (header b (header b h).info).size)
-      (new : added ≡ not (contains pair_cmp old ((header b h).info, word_at b r)))
+  module _ (h j r room : ℕ) (flags : List Bool) (added : Bool) (old : BTreeSet (ℕ × ℕ)) (k : ℕ × ℕ) (stands : IsRelocAt b h j r) (taken : AreTaken b h j old) (wide : room ≡ (header b (header b h).info).size)
+      (of : k.0 ≡ (header b h).info) (at : k.1 ≡ word_at b r) (new : added ≡ not (contains pair_cmp old k))
       (set : (k : ℕ) → IsKeptSymbol b k → flag_at flags k ≡ true) (unset : (k : ℕ) → flag_at flags k ≡ true → IsKeptSymbol b k) where
     wrong_here : (d : ℕ) → HoldsIn (entry_tests b room flags added r) d → BadEntry b h j (r + d)
     wrong_here d (inl t) = record { r = r; stands = stands; wrong = inl (omega (arith, t.0), elim (or_cases _ _ t.1) [
-        | inl a ↦ inr (taken.sound ((header b h).info, word_at b r) (not-false _ (sym new ∙ not-true added a)))
+        | inl a ↦ inr (moved h j k.0 k.1 (header b h).info (word_at b r) of at (taken.sound k (not-false _ (sym new ∙ not-true added a))))
         | inr p ↦ inl (let l = leb-false (word_at b r + reloc_width (word_at b (r + 4) % 256)) room (not-true _ p) in omega (arith, l, wide))
       ]) }
     wrong_here d (inr (inl t)) =
@@ -132,7 +136,7 @@ module _ (b : List ℕ) where
         elim bad.wrong [
           | inl w ↦ (0, omega (arith, w.0, same), inl (refl, elim w.1 [
               | inl l ↦ or_right (not added) _ (not_from_false _ (lt-leb _ room (let m = subst (λ (x : ℕ). (header b (header b h).info).size < word_at b x + reloc_width (word_at b (x + 4) % 256)) same l in omega (arith, m, wide))))
-              | inr e ↦ or_left (not added) _ (not_from_false added (new ∙ ap not (taken.whole ((header b h).info, word_at b r) (subst (λ (x : ℕ). IsEarlier b h j (header b h).info (word_at b x)) same e))))
+              | inr e ↦ or_left (not added) _ (not_from_false added (new ∙ ap not (taken.whole k (moved h j (header b h).info (word_at b r) k.0 k.1 (sym of) (sym at) (subst (λ (x : ℕ). IsEarlier b h j (header b h).info (word_at b x)) same e)))))
             ]))
           | inr w ↦ (4, omega (arith, w.0, same), inr (inl (refl, not_from_false _ (none (word_at b (r + 4) % 256) (word_at b (r + 4) / 256)
               (subst (λ (x : ℕ). word_at b (x + 4) % 256 ≢ 0) same w.1) (subst (λ (x : ℕ). IsKeptSymbol b (word_at b (x + 4) / 256) → ⊥) same w.2)))))
@@ -179,6 +183,26 @@ module _ (b : List ℕ) where
 
   pub no_entries : (h n : ℕ) → n ≡ (header b h).size / 8 → ((i o : ℕ) → i < n → BadEntry b h i o → ⊥) → IsLowestIn (EntryFault b h) h None
   no_entries h n e none o f = none f.0 o (let t = f.1.stands.there in omega (arith, t, e)) f.1
+
+-- where the entries of a header stand
+module _ (b : List ℕ) (h : ℕ) (tabled : IsTabled b) (i : IsHeader b h) (k : is_kept_relocs b h ≡ true) where
+  is_rel : IsKind b h rel
+  is_rel = (i.behind_null, i.there, eqb-true _ _ (and_parts ((header b h).kind == rel) (is_kept b (header b h).info) k).0)
+
+  pub target_there : IsHeader b (header b h).info
+  target_there = (tabled.targets h is_rel).listed
+
+  pub entry_inside : (j : ℕ) → j < (header b h).size / 8 → ((header b h).offset + 8 * j) + 8 ≤ length b
+  entry_inside j l =
+      let kind : (header b h).kind ≡ rel = is_rel.2 in
+      let inside = tabled.inside h i (λ e. absurd (omega (arith, kind, e))) in
+      omega (arith, inside, l)
+
+  pub entry_at : (j : ℕ) → j < (header b h).size / 8 → IsRelocAt b h j ((header b h).offset + 8 * j)
+  entry_at j l = record { table = is_rel; of_kept = (and_parts ((header b h).kind == rel) (is_kept b (header b h).info) k).1; there = l; place = refl }
+
+  pub lowest_target : (p : Place) → p.section ≡ h → p.offset ≡ header_place b h + 28 → (header b (header b h).info).kind ≡ nobits → IsLowestIn (TargetFault b h) h (Some p)
+  lowest_target p e f n = (e, (is_rel, (and_parts ((header b h).kind == rel) (is_kept b (header b h).info) k).1, n, f), λ o t l. omega (arith, t.3, f, l))
 
 -- the lower one of two places of a header
 pub lower_in : (P Q R : ℕ → Type 0) (h : ℕ) (x y : Option Place) → ((o : ℕ) → R o → P o ⊎ Q o) → ((o : ℕ) → P o → R o) → ((o : ℕ) → Q o → R o) → IsLowestIn P h x → IsLowestIn Q h y → IsLowestIn R h (lower_of x y)
@@ -251,5 +275,17 @@ module _ (b : List ℕ) where
   lowest_found l h p none at =
       lowest_at (Fault b l BadReloc) h p.offset (λ s o u f. none s o u (found l s o f)) (there l h p.offset at.1) (λ o f u. at.2 o (found l h o f) u) p at.0 refl
 
+  pub lowest_some : (l : Limit) (h : ℕ) (o : Option Place) → is_some o ≡ true → NoneUnder (RelocFault b) h → IsLowestIn (RelocFault b h) h o → IsLowest (Fault b l BadReloc) o
+  lowest_some l h None e none at = absurd (false≢true e)
+  lowest_some l h (Some p) e none at = lowest_found l h p none at
+
+  pub next_none : (h : ℕ) (o : Option Place) → is_some o ≡ false → NoneUnder (RelocFault b) h → IsLowestIn (RelocFault b h) h o → NoneUnder (RelocFault b) (h + 1)
+  next_none h None e none at = none_next h none at
+  next_none h (Some p) e none at = absurd (true≢false e)
+
   pub lowest_nowhere : (l : Limit) → NoneUnder (RelocFault b) (header_count b) → IsLowest (Fault b l BadReloc) None
   lowest_nowhere l none = λ s o f. none s o (let k = of_relocs s o (found l s o f) in k.0.1) (found l s o f)
+
+pub if_none : (P : Type 0) (o : Option Place) → is_some o ≡ false → IfNone o P → P
+if_none P None e p = p
+if_none P (Some x) e p = absurd (true≢false e)

@@ -95,7 +95,7 @@ get_made f first zero j d l = absurd (omega arith)
 get_made f first (suc n) zero d l = let s : first ≡ first + 0 = omega arith in ap f s
 get_made f first (suc n) (suc j) d l = let s : (first + 1) + j ≡ first + suc j = omega arith in get_made f (first + 1) n j d (omega arith) ∙ ap f s
 
-flag_made : (p : ℕ → Bool) (n i : ℕ) → 0 < i → i < n → get_or (false ∷ map p (from 1 (n - 1))) i false ≡ p i
+pub flag_made : (p : ℕ → Bool) (n i : ℕ) → 0 < i → i < n → get_or (false ∷ map p (from 1 (n - 1))) i false ≡ p i
 flag_made p n zero l u = absurd (omega arith)
 flag_made p n (suc i) l u = let s : 1 + i ≡ suc i = omega arith in get_made p 1 (n - 1) i false (omega arith) ∙ ap p s
 

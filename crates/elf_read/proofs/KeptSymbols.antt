@@ -60,10 +60,12 @@ symbol_there b k None e h =
     go zero h = false≢true h
     go (suc k) h = false≢true h
 symbol_there b k (Some t) e h =
-    let set : flag_at (false ∷ map (λ k. is_kept_symbol b ((header b t).offset + 16 * k)) (from 1 ((header b t).size / 16 - 1))) k ≡ true = subst (λ (f : List Bool). flag_at f k ≡ true) (flags_are b t e) h in
-    let l = past _ k set in
-    let long = length_made (λ k. is_kept_symbol b ((header b t).offset + 16 * k)) 1 ((header b t).size / 16 - 1) in
-    let some : k ≢ 0 = λ z. false≢true (subst (λ (j : ℕ). flag_at (false ∷ map (λ k. is_kept_symbol b ((header b t).offset + 16 * k)) (from 1 ((header b t).size / 16 - 1))) j ≡ true) z set) in
+    let f : ℕ → Bool = λ i. is_kept_symbol b ((header b t).offset + 16 * i) in
+    let n : ℕ = (header b t).size / 16 - 1 in
+    let set : flag_at (false ∷ map f (from 1 n)) k ≡ true = subst (λ (x : List Bool). flag_at x k ≡ true) (flags_are b t e) h in
+    let l : k < length (false ∷ map f (from 1 n)) = past (false ∷ map f (from 1 n)) k set in
+    let long : length (map f (from 1 n)) ≡ n = length_made f 1 n in
+    let some : k ≢ 0 = λ z. false≢true (subst (λ (j : ℕ). flag_at (false ∷ map f (from 1 n)) j ≡ true) z set) in
     (t, record { table = symbol_table_found b t e; behind_null = omega (arith, some); there = omega (arith, l, long, some); place = refl })
 
 module _ (b : List ℕ) (tabled : IsTabled b) (homes : HasHomes b) where

@@ -11,3 +11,4 @@ pub mod LimitFaults
 pub mod KindFaults
 pub mod KeptSymbols
 pub mod BadRelocs
+pub mod BuiltLists

@@ -1,13 +1,13 @@
 -- What is kept of a file, as tables over the numbers of headers and of symbols.
-use Rattle.std.specs.Prelude.{◌≡◌, ◌<◌, ◌≤◌, ◌⊎◌, ℕ, ◌+◌, ◌-◌, ◌*◌, ◌/◌, ◌&&◌, ◌==◌, ◌||◌, not, if◌then◌else◌, Bool, true, false, List, ◌∷◌, [], length, map, take, filter, Some, None, slice_index, count_by, nat_lt}
+use Rattle.std.specs.Prelude.{◌≡◌, ◌≢◌, ◌%◌, ◌<◌, ◌≤◌, ◌⊎◌, ℕ, ◌+◌, ◌-◌, ◌*◌, ◌/◌, ◌&&◌, ◌==◌, ◌||◌, not, if◌then◌else◌, Bool, true, false, List, ◌∷◌, [], length, map, take, filter, Some, None, slice_index, count_by, nat_lt}
 use Rattle.std.specs.List.{slice_index_or, flat_map}
 use Rattle.elf_model.specs.declared.refusals.Limit.{Limit}
 use Rattle.elf_model.specs.Constants.{symtab, rel, nobits}
-use Rattle.elf_model.specs.Fields.{half_at, same_name}
+use Rattle.elf_model.specs.Fields.{half_at, word_at, same_name}
 use Rattle.elf_model.specs.Objects.{is_alloc, is_exec, is_writable}
 use Rattle.elf_model.specs.Maps.{map_name}
 use Rattle.elf_model.specs.Files.{header, header_count, section_name, is_table, is_dropped, is_refused_kind, headers, is_kept, is_kept_symbol, symbol_places, symbol_table, is_reloc_table, HasTables, from, entries_of}
-use Rattle.elf_read.specs.Faults.{IsSymbolAt, names_no_section, is_code_header, is_memory_kind}
+use Rattle.elf_read.specs.Faults.{IsSymbolAt, IsRelocAt, IsKeptSymbol, names_no_section, is_code_header, is_memory_kind}
 
 -- for each header whether its section is kept; the null header is not
 abbrev pub kept_flags : List ℕ → List Bool
@@ -54,3 +54,10 @@ kind_tests b input h =
 -- symbols, or the sums of relocations and of code, pass the limit
 abbrev pub passes : Limit → ℕ → ℕ → ℕ → Bool
 passes l symbols relocs code = nat_lt l.symbols symbols || (nat_lt l.relocs relocs || nat_lt l.code code)
+
+-- each relocation of a kept section names a symbol that stays, if it needs one
+abbrev pub HasSymbols : List ℕ → Type 0
+HasSymbols b = (h j r : ℕ) → IsRelocAt b h j r → word_at b (r + 4) % 256 ≢ 0 → IsKeptSymbol b (word_at b (r + 4) / 256)
+
+abbrev pub is_some_reloc : List ℕ → ℕ × ℕ → Bool
+is_some_reloc b e = not (word_at b (e.1 + 4) % 256 == 0)

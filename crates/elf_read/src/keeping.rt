@@ -27,7 +27,7 @@ fn until_nul(text: &[u8]) -> &[u8]
 }
 
 /// The contents of a section that has bytes in the file.
-fn contents(bytes: &[u8], h: usize) -> &[u8]
+pub(crate) fn contents(bytes: &[u8], h: usize) -> &[u8]
     requires tabled { IsTabled bytes.now }
     requires listed { IsHeader bytes.now h }
     requires stored { (header bytes.now h).kind ≢ nobits }
@@ -131,7 +131,7 @@ pub(crate) fn kept_at(bytes: &[u8], kept: &[bool], h: usize) -> bool
 
 /// Whether a symbol goes into the object.
 #[tactic(auto, using(crate::proofs::Flags::kept_symbol_is))]
-fn is_kept_symbol(bytes: &[u8], kept: &[bool], e: usize) -> bool
+pub(crate) fn is_kept_symbol(bytes: &[u8], kept: &[bool], e: usize) -> bool
     requires inside { e + 16 ≤ length bytes.now }
     requires kept { kept.now ≡ kept_flags bytes.now }
     ensures { result ≡ is_kept_symbol bytes.now e }

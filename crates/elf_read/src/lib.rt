@@ -6,6 +6,7 @@ ghost use Rattle.elf_model.specs.Canonical.{canonical};
 ghost use Rattle.elf_model.specs.Files.{StandsFor};
 ghost use Rattle.elf_read.specs.FirstForm.{IsFirstObject, IsDenied, at_start};
 
+mod building;
 mod file;
 mod form;
 mod format;

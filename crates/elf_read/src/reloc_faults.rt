@@ -97,6 +97,8 @@ fn bad_target(bytes: &[u8], h: usize) -> Option<Place>
     requires kind { is_kept_relocs bytes.now h ≡ true }
     ensures { IsLowestIn (TargetFault bytes.now h) h result }
 {
+    let n = count(bytes);
+    prove!(h < n);
     let target = header_at(bytes, h).info as usize;
     if header_at(bytes, target).kind != NOBITS {
         return None;
