@@ -1,6 +1,10 @@
 pub mod FirstTests
 pub mod Formats
 pub mod TableFaults
+pub mod Tabled
+pub mod Texts
+pub mod NameFaults
+pub mod SymbolTable
 pub mod Frame
 pub mod Moves
 pub mod Refusing

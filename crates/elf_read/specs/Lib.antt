@@ -4,3 +4,4 @@ pub mod Faults
 pub mod Headers
 pub mod Places
 pub mod HeaderFaults
+pub mod Texts

@@ -10,7 +10,9 @@ mod file;
 mod form;
 mod format;
 mod headers;
+mod names;
 mod places;
+mod strings;
 mod tables;
 #[cfg(test)]
 mod tests;
