@@ -5,6 +5,7 @@ pub mod Tabled
 pub mod Texts
 pub mod NameFaults
 pub mod SymbolTable
+pub mod BadSymbols
 pub mod Frame
 pub mod Moves
 pub mod Refusing

@@ -40,10 +40,10 @@ test_no : {P : Type 0} (b : Bool) → (P → b ≡ true) → not b ≡ true → 
 test_no b f n p = false≢true (sym (not-true b n) ∙ f p)
 
 -- a number that isn't another
-other : (m n : ℕ) → (m ≡ n → ⊥) → not (eqb m n) ≡ true
+pub other : (m n : ℕ) → (m ≡ n → ⊥) → not (eqb m n) ≡ true
 other m n h = no_test (eqb m n) (eqb-true m n) h
 
-others : (m n : ℕ) → not (eqb m n) ≡ true → m ≡ n → ⊥
+pub others : (m n : ℕ) → not (eqb m n) ≡ true → m ≡ n → ⊥
 others m n h = test_no (eqb m n) (eq-eqb m n) h
 
 -- a symbol table stands behind the null header and before this one

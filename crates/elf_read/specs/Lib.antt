@@ -5,3 +5,4 @@ pub mod Headers
 pub mod Places
 pub mod HeaderFaults
 pub mod Texts
+pub mod SymbolFaults

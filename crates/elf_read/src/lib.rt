@@ -13,6 +13,7 @@ mod headers;
 mod names;
 mod places;
 mod strings;
+mod symbols;
 mod tables;
 #[cfg(test)]
 mod tests;
