@@ -15,14 +15,14 @@ use Rattle.elf_read.proofs.TableFaults.{kind_there, there_kind, target_there, th
 kind_stable : (b : List ℕ) (h kind : ℕ) → ((IsKind b h kind → ⊥) → ⊥) → IsKind b h kind
 kind_stable b h kind f =
     elim (cases_Bool (has_kind b h kind)) [
-      | inl yes ↦ kind_there b h kind yes
+      | inl there ↦ kind_there b h kind there
       | inr none ↦ absurd (f (λ k. false≢true (sym none ∙ there_kind b h kind k)))
     ]
 
 target_stable : (b : List ℕ) (h : ℕ) → ((IsTarget b h → ⊥) → ⊥) → IsTarget b h
 target_stable b h f =
     elim (cases_Bool (is_target b h)) [
-      | inl yes ↦ target_there b h yes
+      | inl there ↦ target_there b h there
       | inr none ↦ absurd (f (λ k. false≢true (sym none ∙ there_target b h k)))
     ]
 
