@@ -3,6 +3,8 @@ pub mod Formats
 pub mod TableFaults
 pub mod Tabled
 pub mod Texts
+pub mod Named
+pub mod SoundSymbols
 pub mod NameFaults
 pub mod SymbolTable
 pub mod BadSymbols

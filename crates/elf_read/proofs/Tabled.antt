@@ -26,10 +26,10 @@ target_stable b h f =
       | inr none ↦ absurd (f (λ k. false≢true (sym none ∙ there_target b h k)))
     ]
 
-le_stable : (m n : ℕ) → (n < m → ⊥) → m ≤ n
+pub le_stable : (m n : ℕ) → (n < m → ⊥) → m ≤ n
 le_stable m n f = elim (cases_lt n m) [ inl lt ↦ absurd (f lt) | inr le ↦ le ]
 
-eq_stable : (m n : ℕ) → (m ≢ n → ⊥) → m ≡ n
+pub eq_stable : (m n : ℕ) → (m ≢ n → ⊥) → m ≡ n
 eq_stable m n f = elim (cases_eq m n) [ inl e ↦ e | inr ne ↦ absurd (f ne) ]
 
 one_table : (b : List ℕ) (l : Limit) → ((s o : ℕ) → Fault b l BadTable s o → ⊥) → (h k : ℕ) → IsKind b h symtab → IsKind b k symtab → h ≡ k

@@ -1,9 +1,9 @@
 -- What may be wrong with a symbol, as tests, each with its offset.
-use Rattle.std.specs.Prelude.{ℕ, ◌+◌, ◌/◌, ◌%◌, ◌==◌, nat_lt, nat_le, ◌&&◌, ◌||◌, not, Bool, List, [], ◌∷◌}
+use Rattle.std.specs.Prelude.{◌≡◌, ◌≤◌, ◌<◌, false, ℕ, ◌+◌, ◌/◌, ◌%◌, ◌==◌, nat_lt, nat_le, ◌&&◌, ◌||◌, not, Bool, List, [], ◌∷◌}
 use Rattle.elf_model.specs.Constants.{local}
 use Rattle.elf_model.specs.Fields.{byte_at, half_at, word_at}
 use Rattle.elf_model.specs.Files.{header_count, header}
-use Rattle.elf_read.specs.Faults.{names_no_section, place_of}
+use Rattle.elf_read.specs.Faults.{IsSymbolAt, names_no_section, place_of}
 
 -- its value lies behind the end of the section that it is defined in
 abbrev pub is_beyond : List ℕ → ℕ → ℕ → ℕ → Bool
@@ -25,3 +25,12 @@ symbol_tests seen b e =
     ∷ (12, is_unknown seen (byte_at b (e + 12)))
     ∷ (14, is_homeless b (half_at b (e + 14)))
     ∷ []
+
+-- Every symbol is sound.
+pub record AreSymbols (b : List ℕ) : Type 0 where
+  pub bind : (t k e : ℕ) → IsSymbolAt b t k e → byte_at b (e + 12) / 16 ≤ 2
+  pub kind : (t k e : ℕ) → IsSymbolAt b t k e → byte_at b (e + 12) % 16 ≤ 4
+  pub locals_first : (t j d k e : ℕ) → j < k → IsSymbolAt b t j d → IsSymbolAt b t k e → byte_at b (e + 12) / 16 ≡ local → byte_at b (d + 12) / 16 ≡ local
+  pub home : (t k e : ℕ) → IsSymbolAt b t k e → names_no_section (half_at b (e + 14)) ≡ false → (half_at b (e + 14) < header_count b) × (half_at b (e + 14) < 0xFF00)
+  pub value : (t k e : ℕ) → IsSymbolAt b t k e → names_no_section (half_at b (e + 14)) ≡ false →
+      place_of (byte_at b (e + 12) % 16) (word_at b (e + 4)) ≤ (header b (half_at b (e + 14))).size

@@ -32,3 +32,8 @@ pub record IsUnnamedSymbol (b : List ℕ) (t e : ℕ) : Type 0 where
   pub k : ℕ
   pub stands : IsSymbolAt b t k e
   pub endless : EndsAt b (header b t).link (word_at b e) → ⊥
+
+-- Every name ends.
+pub record IsNamed (b : List ℕ) : Type 0 where
+  pub sections : (h : ℕ) → IsHeader b h → (header b h).kind ≢ rel → EndsAt b (half_at b 50) (header b h).name
+  pub symbols : (t k e : ℕ) → IsSymbolAt b t k e → EndsAt b (header b t).link (word_at b e)
