@@ -1,4 +1,5 @@
 pub mod FirstTests
+pub mod FirstFaults
 pub mod Formats
 pub mod TableFaults
 pub mod Tabled

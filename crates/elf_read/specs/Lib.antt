@@ -6,3 +6,4 @@ pub mod Places
 pub mod HeaderFaults
 pub mod Texts
 pub mod SymbolFaults
+pub mod FirstFaults

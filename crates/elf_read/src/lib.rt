@@ -10,6 +10,7 @@ mod file;
 mod form;
 mod format;
 mod headers;
+mod malformed;
 mod names;
 mod places;
 mod strings;
