@@ -211,14 +211,15 @@ pub first_symbol : (b : List ℕ) (l : Limit) (t k d place : ℕ) → IsTabled b
     → Fault b l BadSymbol t (place + d) × ((s o : ℕ) → Fault b l BadSymbol s o → (s < t) ⊎ ((s ≡ t) × (o < place + d)) → ⊥)
 first_symbol b l t k d place tabled kind some there at below e =
     let first = some_of b t k d e in
-    let stands : IsSymbolAt b t k (place_in b t k) = record { table = kind; behind_null = some; there = there; place = refl } in
-    (subst (λ (x : ℕ). Fault b l BadSymbol t (x + d)) (sym at) (at_symbol b l t k (place_in b t k) d stands first.0),
-    λ s o fault lower.
-    let f = fault_of b t s o tabled kind (found b l s o fault) in
-    elim lower [
-      | inl low ↦ omega (arith, low, f.same)
-      | inr same ↦ no_lower b t k d s o below first.1 (small_field b t k d e) f (omega (arith, same.1, at))
-    ])
+    let stands : IsSymbolAt b t k (place_in b t k) = record { table = kind; behind_null = some; there = there; place = refl } in (
+      subst (λ (x : ℕ). Fault b l BadSymbol t (x + d)) (sym at) (at_symbol b l t k (place_in b t k) d stands first.0),
+      λ s o fault lower.
+          let f = fault_of b t s o tabled kind (found b l s o fault) in
+          elim lower [
+            | inl low ↦ omega (arith, low, f.same)
+            | inr same ↦ no_lower b t k d s o below first.1 (small_field b t k d e) f (omega (arith, same.1, at))
+          ],
+    )
 
 pub no_symbols : (b : List ℕ) (l : Limit) → ((h : ℕ) → IsKind b h symtab → ⊥) → (s o : ℕ) → Fault b l BadSymbol s o → ⊥
 no_symbols b l none s o fault = none s (found b l s o fault).stands.table

@@ -56,7 +56,7 @@ first_fault b l r n p only low below lowest = (
           | inl lt ↦ below q s o lt f
           | inr same ↦ lowest.1 s o (subst (λ (x : Refusal). Fault b l x s o) (only q same.0) f) same.1
         ];
-  }
+  },
 )
 
 pub none_more : (b : List ℕ) (l : Limit) (r : Refusal) → IsOnly r → IsFaultlessBelow b l (number_of r) → IsLowest (Fault b l r) None → IsFaultlessBelow b l (number_of r + 1)

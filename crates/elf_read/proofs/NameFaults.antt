@@ -87,15 +87,16 @@ named_more b h below ends s o lt u =
 
 pub first_section : (b : List ℕ) (h place : ℕ) → place ≡ header_place b h → IsHeader b h → NamedBelow b h → (header b h).kind ≢ rel → (EndsAt b (half_at b 50) (header b h).name → ⊥)
     → IsUnnamed b h place × ((s o : ℕ) → IsUnnamed b s o → (s < h) ⊎ ((s ≡ h) × (o < place)) → ⊥)
-first_section b h place at there below kind endless =
-    (record { listed = there; named = kind; endless = endless; place = at },
-    λ s o u lower.
-    elim lower [
-      | inl lt ↦ below s o lt u
-      | inr same ↦
-          (let here : o ≡ header_place b h = u.place ∙ ap (header_place b) same.0 in
-          omega (arith, same.1, at, here))
-    ])
+first_section b h place at there below kind endless = (
+  record { listed = there; named = kind; endless = endless; place = at },
+  λ s o u lower.
+      elim lower [
+        | inl lt ↦ below s o lt u
+        | inr same ↦
+            (let here : o ≡ header_place b h = u.place ∙ ap (header_place b) same.0 in
+            omega (arith, same.1, at, here))
+      ],
+)
 
 -- the names of the symbols before this one end
 abbrev pub SymbolsNamed : List ℕ → ℕ → ℕ → Type 0
@@ -115,21 +116,22 @@ unnamed_behind b t k s o tabled kind named u =
     let place : o ≡ (header b t).offset + 16 * u.k = subst (λ (x : ℕ). o ≡ (header b x).offset + 16 * u.k) same u.stands.place in
     let there : u.k < (header b t).size / 16 = subst (λ (x : ℕ). u.k < (header b x).size / 16) same u.stands.there in
     let behind : k ≤ u.k =
-        elim (cases_lt u.k k) [
-          | inl lt ↦
-              absurd (u.endless (subst (λ (x : ℕ). EndsAt b (header b x).link (word_at b o)) (sym same)
-              (subst (λ (x : ℕ). EndsAt b (header b t).link (word_at b x)) (sym place) (named u.k u.stands.behind_null lt))))
-          | inr le ↦ le
-        ] in
+    elim (cases_lt u.k k) [
+      | inl lt ↦
+          absurd (u.endless (subst (λ (x : ℕ). EndsAt b (header b x).link (word_at b o)) (sym same)
+          (subst (λ (x : ℕ). EndsAt b (header b t).link (word_at b x)) (sym place) (named u.k u.stands.behind_null lt))))
+      | inr le ↦ le
+    ] in
     (same, omega arith, omega arith)
 
 pub first_symbol : (b : List ℕ) (t k e : ℕ) → IsTabled b → IsKind b t symtab → 0 < k → k < (header b t).size / 16 → e ≡ (header b t).offset + 16 * k → SymbolsNamed b t k → (EndsAt b (header b t).link (word_at b e) → ⊥)
     → IsUnnamedSymbol b t e × ((s o : ℕ) → IsUnnamedSymbol b s o → (s < t) ⊎ ((s ≡ t) × (o < e)) → ⊥)
-first_symbol b t k e tabled kind some lt at named endless =
-    (record { k = k; stands = record { table = kind; behind_null = some; there = lt; place = at }; endless = endless },
-    λ s o u lower.
-    let behind = unnamed_behind b t k s o tabled kind named u in
-    elim lower [ inl low ↦ omega (arith, low, behind.0) | inr same ↦ omega (arith, same.1, at, behind.1) ])
+first_symbol b t k e tabled kind some lt at named endless = (
+  record { k = k; stands = record { table = kind; behind_null = some; there = lt; place = at }; endless = endless },
+  λ s o u lower.
+      let behind = unnamed_behind b t k s o tabled kind named u in
+      elim lower [ inl low ↦ omega (arith, low, behind.0) | inr same ↦ omega (arith, same.1, at, behind.1) ],
+)
 
 pub all_symbols : (b : List ℕ) (t : ℕ) → IsTabled b → IsKind b t symtab → (k : ℕ) → (header b t).size / 16 ≤ k → SymbolsNamed b t k → (s o : ℕ) → IsUnnamedSymbol b s o → ⊥
 all_symbols b t tabled kind k past named s o u = let behind = unnamed_behind b t k s o tabled kind named u in omega (arith, past, behind.2)

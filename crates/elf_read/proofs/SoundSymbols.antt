@@ -12,9 +12,10 @@ use Rattle.elf_read.proofs.Tabled.{le_stable, eq_stable}
 
 home_of : (b : List ℕ) (l : Limit) → ((s o : ℕ) → Fault b l BadSymbol s o → ⊥) → (t k e : ℕ) → IsSymbolAt b t k e → names_no_section (half_at b (e + 14)) ≡ false → (half_at b (e + 14) < header_count b) × (half_at b (e + 14) < 0xFF00)
 home_of b l none t k e at home =
-    let index = half_at b (e + 14) in
-    (elim (cases_lt index (header_count b)) [ inl lt ↦ lt | inr le ↦ absurd (none _ _ (bad_index t k e at home (inl le))) ],
-    elim (cases_lt index 0xFF00) [ inl lt ↦ lt | inr le ↦ absurd (none _ _ (bad_index t k e at home (inr le))) ])
+    let index = half_at b (e + 14) in (
+      elim (cases_lt index (header_count b)) [ inl lt ↦ lt | inr le ↦ absurd (none _ _ (bad_index t k e at home (inl le))) ],
+      elim (cases_lt index 0xFF00) [ inl lt ↦ lt | inr le ↦ absurd (none _ _ (bad_index t k e at home (inr le))) ],
+    )
 
 pub sound_symbols : (b : List ℕ) (l : Limit) → ((s o : ℕ) → Fault b l BadSymbol s o → ⊥) → AreSymbols b
 sound_symbols b l none = record {

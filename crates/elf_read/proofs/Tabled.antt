@@ -51,14 +51,14 @@ tabled b l long none = record {
   inside = λ h there kind. le_stable _ _ (λ lt. none _ _ (outside h there kind lt));
   one_symbol_table = one_table b l none;
   symbol_entries = λ h kind. (
-      eq_stable _ _ (λ f. none _ _ (symtab_entry h kind f)),
-      eq_stable _ _ (λ f. none _ _ (uneven_symtab h kind f)),
-      kind_stable b _ strtab (λ f. none _ _ (symtab_link h kind f))
+    eq_stable _ _ (λ f. none _ _ (symtab_entry h kind f)),
+    eq_stable _ _ (λ f. none _ _ (uneven_symtab h kind f)),
+    kind_stable b _ strtab (λ f. none _ _ (symtab_link h kind f)),
   );
   reloc_entries = λ h kind. (
-      eq_stable _ _ (λ f. none _ _ (rel_entry h kind f)),
-      eq_stable _ _ (λ f. none _ _ (uneven_rel h kind f)),
-      kind_stable b _ symtab (λ f. none _ _ (rel_link h kind f))
+    eq_stable _ _ (λ f. none _ _ (rel_entry h kind f)),
+    eq_stable _ _ (λ f. none _ _ (uneven_rel h kind f)),
+    kind_stable b _ symtab (λ f. none _ _ (rel_link h kind f)),
   );
   targets = λ h kind. target_stable b _ (λ f. none _ _ (rel_target h kind f));
 }

@@ -40,9 +40,9 @@ text_is table at n x =
     let inside = x.inside in
     let long : n < length here = omega (arith, length-drop at table) in
     let place : position_or_len (λ c. c == 0) here ≡ n =
-        position_or_len_is (λ c. c == 0) here n 0 (omega arith)
-        (λ k lt. ne_eqb _ 0 (λ e. x.none_before k lt (sym (get_or-drop at table k 0) ∙ e)))
-        (λ _. eq-eqb _ 0 (get_or-drop at table n 0 ∙ x.ends)) in
+    position_or_len_is (λ c. c == 0) here n 0 (omega arith)
+    (λ k lt. ne_eqb _ 0 (λ e. x.none_before k lt (sym (get_or-drop at table k 0) ∙ e)))
+    (λ _. eq-eqb _ 0 (get_or-drop at table n 0 ∙ x.ends)) in
     ap (λ (k : ℕ). take k here) (sym place)
 
 decides_here : (b : List ℕ) (h at : ℕ) (r : Option ℕ) → IsTabled b → IsKind b h strtab → IsTextOrNone (contents b h) at r → IsTrue (is_some r) ↔ EndsAt b h at

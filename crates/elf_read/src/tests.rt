@@ -2,7 +2,7 @@ use super::*;
 use std::alloc::AllocError;
 
 /// A file of the first form that an assembler and the format's tools made.
-const FILE: [u8; 344] = [
+pub(crate) const FILE: [u8; 344] = [
     127, 69, 76, 70, 1, 1, 1, 0, 0, 0, 0, 0, 0, 0, 0, 0, 1, 0, 40, 0, 1, 0, 0, 0, 0, 0, 0, 0, 0, 0,
     0, 0, 144, 0, 0, 0, 0, 0, 0, 5, 52, 0, 0, 0, 0, 0, 40, 0, 5, 0, 4, 0, 5, 32, 112, 71, 0, 0, 0,
     0, 0, 0, 0, 0, 0, 0, 0, 0, 0, 0, 0, 0, 1, 0, 0, 0, 0, 0, 0, 0, 0, 0, 0, 0, 0, 0, 1, 0, 4, 0, 0,
@@ -17,7 +17,7 @@ const FILE: [u8; 344] = [
     33, 0, 0, 0, 0, 0, 0, 0, 0, 0, 0, 0, 1, 0, 0, 0, 0, 0, 0, 0,
 ];
 
-fn changed(alloc: Global, at: usize, new: &[u8]) -> Result<Vec<u8>, AllocError> {
+pub(crate) fn changed(alloc: Global, at: usize, new: &[u8]) -> Result<Vec<u8>, AllocError> {
     let mut file = Vec::from_slice(alloc, &FILE)?;
     for (k, b) in new.iter().enumerate() {
         if let Some(i) = at.checked_add(k)

@@ -54,7 +54,7 @@ overflow_add-offset c =
     let there : k < (header b t).size / 16 = subst (λ (x : ℕ). k < x / 16) size c.loop-k-test.true in
     let place : c.header_at-f.result.offset + 16 * k ≡ place_in b t k = ap (λ (x : ℕ). x + 16 * k) offset in
     let at : Some c.in-Some-symbol_fault.field ≡ first_of (tests_of b t k) =
-        same_tests b t k (c.header_at-f.result.offset + 16 * k) c.loop-k.seen _ (sym c.in-Some-symbol_fault.is ∙ c.symbol_fault.ensures) c.loop-k.invariant.seen place in
+    same_tests b t k (c.header_at-f.result.offset + 16 * k) c.loop-k.seen _ (sym c.in-Some-symbol_fault.is ∙ c.symbol_fault.ensures) c.loop-k.invariant.seen place in
     omega (arith, symbol_inside b t k c.requires.tabled kind there, offset, small_field b t k c.in-Some-symbol_fault.field at)
 
 pub bounds-bytes-at : goal.bounds-bytes-at
@@ -79,7 +79,7 @@ returns-in-Some-symbol_fault c = λ l.
     let there : k < (header b t).size / 16 = subst (λ (x : ℕ). k < x / 16) size c.loop-k-test.true in
     let place : c.header_at-f.result.offset + 16 * k ≡ place_in b t k = ap (λ (x : ℕ). x + 16 * k) offset in
     let at : Some c.in-Some-symbol_fault.field ≡ first_of (tests_of b t k) =
-        same_tests b t k (c.header_at-f.result.offset + 16 * k) c.loop-k.seen _ (sym c.in-Some-symbol_fault.is ∙ c.symbol_fault.ensures) c.loop-k.invariant.seen place in
+    same_tests b t k (c.header_at-f.result.offset + 16 * k) c.loop-k.seen _ (sym c.in-Some-symbol_fault.is ∙ c.symbol_fault.ensures) c.loop-k.invariant.seen place in
     first_symbol b l t k c.in-Some-symbol_fault.field (c.header_at-f.result.offset + 16 * k) c.requires.tabled kind (omega arith) there place c.loop-k.invariant.sound at
 
 pub loop-k-preserved : goal.loop-k-preserved
@@ -92,7 +92,7 @@ loop-k-preserved c =
     let size : c.header_at-f.result.size ≡ (header b t).size = ap (λ x. x.size) c.header_at-f.ensures in
     let place : c.header_at-f.result.offset + 16 * k ≡ place_in b t k = ap (λ (x : ℕ). x + 16 * k) offset in
     let at : None ≡ first_of (tests_of b t k) =
-        same_tests b t k (c.header_at-f.result.offset + 16 * k) c.loop-k.seen _ (sym c.in_default-symbol_fault.is ∙ c.symbol_fault.ensures) c.loop-k.invariant.seen place in
+    same_tests b t k (c.header_at-f.result.offset + 16 * k) c.loop-k.seen _ (sym c.in_default-symbol_fault.is ∙ c.symbol_fault.ensures) c.loop-k.invariant.seen place in
     let info = byte_at b (c.header_at-f.result.offset + 16 * k + 12) in
     let bind : info / 16 ≡ bind_at b t k = ap (λ (x : ℕ). byte_at b (x + 12) / 16) place in
     let step = others_more b t k info c.loop-k.seen (omega arith) bind c.loop-k.invariant.seen in
