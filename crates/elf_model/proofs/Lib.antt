@@ -10,5 +10,8 @@ mod Written
 mod Headers
 mod Kept
 mod Symbols
+mod Sorted
+mod Relocs
 mod Tables
+mod OneObject
 pub mod Stands

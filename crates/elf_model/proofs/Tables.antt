@@ -1,29 +1,29 @@
 -- A canonical file has the format's header, and its tables lead to one another.
-use Rattle.std.proofs.Common.{◌≡◌, ◌≢◌, ◌≤◌, ◌<◌, ℕ, ◌+◌, ◌-◌, ◌*◌, ◌/◌, ◌%◌, ◌^◌, List, length, get_or, take, drop, Some, refl, sym, ap, ◌∙◌, subst, arith}
+use Rattle.std.proofs.Common.{◌≡◌, ◌≢◌, ◌≤◌, ◌<◌, ℕ, ◌+◌, ◌-◌, ◌*◌, ◌/◌, ◌%◌, ◌^◌, false, List, length, get_or, take, drop, Some, refl, sym, ap, ◌∙◌, subst, arith}
 use Rattle.std.specs.Prelude.{slice_get, All, codes}
 use Rattle.std.proofs.lemmas.Bool.{eqb-true}
 use Rattle.elf_model.specs.Constants.{symtab, strtab, rel}
 use Rattle.elf_model.specs.Fields.{word_at}
 use Rattle.elf_model.specs.Objects.{ObjectParts}
-use Rattle.elf_model.specs.Files.{header, header_count, IsArmObject, IsKind, EndsAt, HasTables}
-use Rattle.elf_model.specs.Canonical.{FileSection, file_sections, section_names, relocated, symtab_section, symtab_header, strtab_header, shstrtab_header, strings_section, symbol_names, table_place}
+use Rattle.elf_model.specs.Files.{header, header_count, IsArmObject, IsKind, EndsAt, HasTables, is_table}
+use Rattle.elf_model.specs.Canonical.{FileSection, file_sections, own_section, section_names, relocated, symtab_section, symtab_header, strtab_header, shstrtab_header, strings_section, symbol_names, table_place}
 use Rattle.elf_model.proofs.FieldsRead.{IsHeader, half_read}
 use Rattle.elf_model.proofs.FileRead.{file_of, long, table_read, flags_read, row_size_read, inside_read}
 use Rattle.elf_model.proofs.Laid.{place_of, end_above}
 use Rattle.elf_model.proofs.Lists.{All_at, there}
-use Rattle.elf_model.proofs.Sections.{not_rel}
-use Rattle.elf_model.proofs.Written.{ObjectFacts, each_named, count_sections, table_at}
+use Rattle.elf_model.proofs.Sections.{SectionFacts, not_rel, no_table}
+use Rattle.elf_model.proofs.Written.{ObjectFacts, each_named, count_sections, own_at, relocated_below, table_at}
 use Rattle.elf_model.proofs.Headers.{Reading, head, header_total, names_table, name_ends}
 use Rattle.elf_model.proofs.Symbols.{symtab_number, symtab_fields, symbol_name_ends}
 
 -- what a section of relocations says of its entries
 abbrev pub HasEntries : ObjectParts → FileSection → Type 0
-HasEntries o s = s.kind ≡ rel → (s.entry ≡ 8) × (s.size % 8 ≡ 0) × (s.link ≡ symtab_header o)
+HasEntries o s = s.kind ≡ rel → (s.entry ≡ 8) × (s.size % 8 ≡ 0) × (s.link ≡ symtab_header o) × (0 < s.info) × (s.info ≤ length o.sections)
 
 entries_fit : (o : ObjectParts) → ObjectFacts o → All (HasEntries o) (file_sections o)
 entries_fit o f =
     each_named (HasEntries o) o (λ k d l e. absurd (not_rel (get_or o.sections k d).kind (get_or o.sections k d).flags (f.sections k d l).kept e))
-    (λ k d l e. (refl, omega arith, refl)) (λ e. absurd (omega arith)) (λ e. absurd (omega arith)) (λ e. absurd (omega arith))
+    (λ k d l e. let below = relocated_below o 0 o.sections k d l in (refl, omega arith, refl, omega arith, omega (arith, below))) (λ e. absurd (omega arith)) (λ e. absurd (omega arith)) (λ e. absurd (omega arith))
 
 abbrev pub HasShortName : FileSection → Type 0
 HasShortName s = s.kind ≢ rel → length s.name ≤ 4095
@@ -80,9 +80,17 @@ module _ (o : ObjectParts) (b : List ℕ) (r : Reading o b) where
         version = ap (λ (n : ℕ). n / 2 ^ 24) reads_flags ∙ eqb-true (o.flags / 2 ^ 24) 5 r.facts.version;
       }
 
+  -- a header of a section of the object is no table
+  own_no_table : (i h : ℕ) → h ≡ i + 1 → i < length o.sections → is_table (header b h).kind ≡ false
+  own_no_table i h n l =
+      let at = there o.sections i l in
+      let fields = head o b r i h (own_section at.0) n (own_at o i at.0 at.1) in
+      ap is_table fields.kind ∙ no_table at.0 (All_at SectionFacts o.sections i at.0 r.facts.sections at.1)
+
   pub has_tables : HasTables b
   has_tables =
       let all = total in
+      let own_many = count_sections o in
       let many = header_total o b r in
       let place = table_read b (section_names o) (file_sections o) (table_place o) (shstrtab_header o) o.flags r.file in
       record {
@@ -103,7 +111,14 @@ module _ (o : ObjectParts) (b : List ℕ) (r : Reading o b) where
             let at = section_at h k.0 k.1 in
             let fields = fields_at h at.0 k.0 at.1 in
             let entries = All_at (HasEntries o) (file_sections o) (h - 1) at.0 (entries_fit o r.facts) at.1 (sym fields.kind ∙ k.2) in
-            (fields.entry ∙ entries.0, ap (λ (n : ℕ). n % 8) fields.size ∙ entries.1, subst (λ (t : ℕ). IsKind b t symtab) (sym (fields.link ∙ entries.2)) symtab_kind);
+            let info = fields.info in (
+              fields.entry ∙ entries.0,
+              ap (λ (n : ℕ). n % 8) fields.size ∙ entries.1,
+              subst (λ (t : ℕ). IsKind b t symtab) (sym (fields.link ∙ entries.2)) symtab_kind,
+              omega (arith, info, entries.3),
+              omega (arith, info, entries.4, many, own_many),
+              own_no_table ((header b h).info - 1) (header b h).info (omega (arith, info, entries.3)) (omega (arith, info, entries.3, entries.4)),
+            );
         names_end = λ h l u k.
             let at = section_at h l u in
             let fields = fields_at h at.0 l at.1 in

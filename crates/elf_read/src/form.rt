@@ -7,9 +7,13 @@ ghost use Rattle.elf_read.specs.FirstFile.{IsFirstBytes, are_moves, is_first_cod
 
 use byteorder::{ByteOrder, LittleEndian};
 
+/// The first bytes of a file of the format.
 const MAGIC: [u8; 4] = [0x7F, 0x45, 0x4C, 0x46];
 
-/// Whether these are the bytes of some file of the format.
+/// The bytes of `bx lr`, which returns.
+const RETURN: [u8; 2] = [0x70, 0x47];
+
+/// Whether a file begins as those of the format do, and is as long as a file header.
 pub fn is_elf(bytes: &[u8]) -> bool
     ensures { IsTrue result ↔ IsElf bytes.now }
 {
@@ -37,8 +41,6 @@ fn is_first_code(code: &[u8]) -> bool
     let n = code.len();
     2 <= n && n <= 65_536 && are_moves(&code[..n - 2]) && &code[n - 2..] == RETURN.as_slice()
 }
-
-const RETURN: [u8; 2] = [0x70, 0x47];
 
 /// The size of the code of a file of the first form, by the header of its section. The section headers
 /// are the last 200 bytes.

@@ -2,13 +2,10 @@ pub mod Words
 pub mod Output
 pub mod Texts
 pub mod Runs
-pub mod Marks
-pub mod Formulas
-pub mod Instructions
-pub mod States
-pub mod Steps
-pub mod Schedules
-pub mod Images
+pub mod Commands
+pub mod Statuses
+pub mod HardenedFile
+pub mod Outcomes
 pub mod AddressMaps
 pub mod Hardened
 pub mod Promise

@@ -22,3 +22,20 @@ pub enum Ending {
     /// Memory ran out.
     NoMemory,
 }
+
+impl Ending {
+    ghost use Rattle.guard_cli.specs.Statuses.{status_of};
+
+    /// The exit status that tells of it.
+    pub fn status(&self) -> u8
+        ensures { result ≡ status_of self.now }
+    {
+        match self {
+            Ending::Done => 0,
+            Ending::Refused(_) => 1,
+            Ending::Usage => 2,
+            Ending::ReadFault | Ending::WriteFault | Ending::PrintFault => 3,
+            Ending::NoMemory => 4,
+        }
+    }
+}

@@ -1,13 +1,25 @@
 //! The commands of `skipguard`, from their words to what they save and print.
 #![tactic(auto)]
 
+mod commands;
+mod decisions;
 mod endings;
+mod form;
+#[cfg(test)]
+mod tests;
+mod texts;
+mod words;
 
 ghost use Rattle.std.specs.Prelude.{◌≡◌, ◌≢◌, ◌↔◌, ◌+◌, List, [], ◌∷◌, ℕ, map, Some, IsTrue, IsSome, string_bytes};
 ghost use Rattle.elf_read.specs.FirstForm.{HasFirstForm};
 ghost use Rattle.guard_cli.specs.Words.{Pair, IsHarden, IsCommand};
 ghost use Rattle.guard_cli.specs.Runs.{files_seen, screen_seen, EndsAs, IsMisused, IsRefusedAtOnce, CountsGrow, CountsStay, IsCalm, IsDoneOrNoMemory};
 
+use crate::commands::{harden_pair, tell, tell_made};
+use crate::decisions::at_start;
+use crate::texts::{refused_text, usage_text};
+use crate::words::{Command, command_of};
+use elf_model::Refusal;
 pub use endings::Ending;
 use guard_io::{Shelf, Sink};
 use std::alloc::Global;
@@ -53,5 +65,16 @@ pub fn guard_main<S: Shelf, K: Sink>(
         (p : Pair) → IsHarden (map string_bytes words.now) (p ∷ []) → IsTrue (S.steady shelf.old) → IsTrue (K.steady out.old) →
         IsSome (S.file shelf.old p.input) → CountsStay (files shelf.old) (files shelf.new) (screen out.old) (screen out.new) }
 {
-    Ending::NoMemory
+    match command_of(words) {
+        Command::Unknown => {
+            tell(out, usage_text());
+            Ending::Usage
+        }
+        Command::Several { input } => {
+            let spot = at_start(Refusal::NotYet);
+            tell_made(out, refused_text(alloc, input, &spot));
+            Ending::Refused(spot)
+        }
+        Command::One { input, output } => harden_pair(alloc, input, output, shelf, out),
+    }
 }

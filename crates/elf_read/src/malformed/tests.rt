@@ -1,5 +1,18 @@
 use super::*;
-use crate::tests::{FILE, changed};
+use crate::tests::FILE;
+use std::alloc::{AllocError, Global};
+
+fn changed(alloc: Global, at: usize, new: &[u8]) -> Result<Vec<u8>, AllocError> {
+    let mut file = Vec::from_slice(alloc, &FILE)?;
+    for (k, b) in new.iter().enumerate() {
+        if let Some(i) = at.checked_add(k)
+            && i < file.len()
+        {
+            file[i] = *b;
+        }
+    }
+    Ok(file)
+}
 
 fn at(refusal: Refusal, section: u32, offset: u32) -> Option<Spot> {
     Some(Spot {

@@ -1,9 +1,22 @@
 -- A step of the machine, executed or skipped, and what makes it an ordinary one.
 use Rattle.std.specs.Prelude.{◌≡◌, ◌≢◌, ◌<◌, ◌⊎◌, ℕ, ◌+◌, ◌-◌, ◌*◌, ◌/◌, ◌%◌, ◌==◌, ◌&&◌, ◌||◌, nat_le, not, Bool, true, false, List, Option, Some, None, Result, Ok, Err, if◌then◌else◌, length, Contains, IsTrue}
 use Rattle.elf_model.specs.Fields.{half_at}
-use Rattle.guard_cli.specs.Marks.{Mark, Plain, Entry, Return, Low, Word}
-use Rattle.guard_cli.specs.Instructions.{Instr, Move, Jump, MoveOp, Mov, Mvn, Operand, Imm, Reg, ItPlace, Outside, Inside, Last, Answer, is_wide, decode}
-use Rattle.guard_cli.specs.States.{CodeBytes, Core, State, at, read, FaultKind, BadFetch, BadCode, Outcome, Change, Exit, Falls, Jumps, Site, change, applied, unchanged, it_after, is_whole}
+use Rattle.mark_word.specs.declared.marks.Mark.{Mark}
+use Rattle.mark_word.specs.declared.marks.Mark.TheVariants.{Plain, Entry, Return, Low}
+use Rattle.mark_word.specs.Words.{Word}
+use Rattle.thumb_instr.specs.declared.operands.MoveOp.{MoveOp}
+use Rattle.thumb_instr.specs.declared.operands.MoveOp.TheVariants.{Mov, Mvn}
+use Rattle.thumb_instr.specs.declared.operands.Operand.{Operand}
+use Rattle.thumb_instr.specs.declared.operands.Operand.TheVariants.{Imm, Reg}
+use Rattle.thumb_instr.specs.declared.instructions.Instr.{Instr}
+use Rattle.thumb_instr.specs.declared.instructions.Instr.TheVariants.{Move, Jump}
+use Rattle.thumb_instr.specs.declared.refusals.ItPlace.{ItPlace}
+use Rattle.thumb_instr.specs.declared.refusals.ItPlace.TheVariants.{Outside, Inside, Last}
+use Rattle.thumb_instr.specs.Rows.{Answer, is_wide, decode}
+use Rattle.thumb_table.specs.declared.faults.FaultKind.{FaultKind}
+use Rattle.thumb_table.specs.declared.faults.FaultKind.TheVariants.{BadFetch, BadCode}
+use Rattle.thumb_table.specs.Parts.{CodeBytes}
+use Rattle.thumb_table.specs.States.{Core, State, at, read, Outcome, Change, Exit, Falls, Jumps, Site, change, applied, unchanged, it_after, is_whole}
 
 -- the halfwords of an instruction, and its width in bytes
 pub record Fetched : Type 0 where
@@ -55,11 +68,14 @@ abbrev pub settled : ℕ → Core → Outcome → Result State FaultKind
 settled next x (Ok h) = Ok (at (goes_on next h.exit) (applied h x))
 settled next x (Err kind) = Err kind
 
--- An instruction whose condition fails changes nothing but pc and the IT state.
+-- An instruction of so many bytes at pc, executed. One whose condition fails changes nothing but pc and the IT state.
+abbrev pub carried_out : CodeBytes → Instr → ℕ → State → Result State FaultKind
+carried_out code i width s =
+    settled (s.pc + width) s.core (if takes_effect s.core then change i (record { code = code; address = s.pc; width = width }) s.core else Ok unchanged)
+
 abbrev pub executed : CodeBytes → Fetched → State → Answer → Result State FaultKind
 executed code f s (Err why) = Err (BadCode why)
-executed code f s (Ok i) =
-    settled (s.pc + f.width) s.core (if takes_effect s.core then change i (record { code = code; address = s.pc; width = f.width }) s.core else Ok unchanged)
+executed code f s (Ok i) = carried_out code i f.width s
 
 -- An executed step.
 abbrev pub step_of : CodeBytes → Option Fetched → State → Result State FaultKind
@@ -101,12 +117,16 @@ OrdinaryJump code w = IsJump w.mark
     IsJump (Low a) = ⊥
 
 abbrev pub OrdinaryInstr : CodeBytes → Instr → Core → Type 0
-OrdinaryInstr code (Move op s d o) x = OrdinaryOperand op s o x
-OrdinaryInstr code (Jump m) x = OrdinaryJump code (read x m)
+OrdinaryInstr code (Move i) x = OrdinaryOperand i.op i.s i.x x
+OrdinaryInstr code (Jump i) x = OrdinaryJump code (read x i.m)
+
+-- A step whose condition fails is ordinary.
+abbrev pub OrdinaryIf : CodeBytes → Instr → Core → Type 0
+OrdinaryIf code i x = takes_effect x ≡ true → OrdinaryInstr code i x
 
 abbrev pub OrdinaryAnswer : CodeBytes → Answer → Core → Type 0
 OrdinaryAnswer code (Err why) x = Unit {0}
-OrdinaryAnswer code (Ok i) x = takes_effect x ≡ true → OrdinaryInstr code i x
+OrdinaryAnswer code (Ok i) x = OrdinaryIf code i x
 
 -- The step from this state is ordinary: marked words are only moved, stored and loaded whole, tested for
 -- zero, jumped to or completed. A step whose condition fails is ordinary.

@@ -1,26 +1,20 @@
 -- The state of the machine, and what an instruction changes in it.
 use Rattle.std.specs.Prelude.{ℕ, ◌+◌, ◌-◌, ◌*◌, ◌/◌, ◌%◌, ◌^◌, ◌==◌, ◌&&◌, nat_le, not, Bool, true, false, List, [], ◌∷◌, length, Option, Some, None, Result, Ok, Err, if◌then◌else◌, slice_set, get_or}
 use Rattle.std.specs.List.{list_any}
-use Rattle.guard_cli.specs.Marks.{Mark, Plain, Entry, Return, Low, Word, Cell, plain}
-use Rattle.guard_cli.specs.Formulas.{Shift, Lsl, Shifted, shift_c, expand_imm}
-use Rattle.guard_cli.specs.Instructions.{Instr, Move, Jump, MoveOp, Mov, Mvn, Operand, Imm, Reg, BadInstr}
-
--- memory: data, and the stack behind it
-pub record Memory : Type 0 where
-  pub base : ℕ
-  pub cells : List Cell
-
--- the mark of a word, MOVW or MOVT in the code, by its address
-pub record PlaceMark : Type 0 where
-  pub at : ℕ
-  pub mark : Mark
-
--- Code is bytes that no step changes. Its stops are where no return may lead to.
-pub record CodeBytes : Type 0 where
-  pub base : ℕ
-  pub bytes : List ℕ
-  pub marks : List PlaceMark
-  pub stops : List ℕ
+use Rattle.mark_word.specs.declared.numbers.Shift.{Shift}
+use Rattle.mark_word.specs.declared.numbers.Shift.TheVariants.{Lsl}
+use Rattle.mark_word.specs.declared.numbers.Shifted.{Shifted}
+use Rattle.mark_word.specs.Words.{Word, Cell, plain}
+use Rattle.mark_word.specs.Formulas.{shift_c, expand_imm}
+use Rattle.thumb_instr.specs.declared.operands.MoveOp.{MoveOp}
+use Rattle.thumb_instr.specs.declared.operands.MoveOp.TheVariants.{Mov, Mvn}
+use Rattle.thumb_instr.specs.declared.operands.Operand.{Operand}
+use Rattle.thumb_instr.specs.declared.operands.Operand.TheVariants.{Imm, Reg}
+use Rattle.thumb_instr.specs.declared.instructions.Instr.{Instr}
+use Rattle.thumb_instr.specs.declared.instructions.Instr.TheVariants.{Move, Jump}
+use Rattle.thumb_table.specs.declared.faults.FaultKind.{FaultKind}
+use Rattle.thumb_table.specs.declared.faults.FaultKind.TheVariants.{BadStack, BadJump}
+use Rattle.thumb_table.specs.Parts.{Memory, CodeBytes}
 
 -- r0 to r12, sp and lr; the flags; the IT state; memory (ARMv7-M ARM, B1.4)
 pub record Core : Type 0 where
@@ -38,15 +32,6 @@ pub record State : Type 0 where
 
 abbrev pub at : ℕ → Core → State
 at pc core = record { pc = pc; core = core }
-
-pub data FaultKind : Type 0 where
-  Trap : FaultKind
-  BadAddress : FaultKind
-  Unaligned : FaultKind
-  BadStack : FaultKind
-  BadJump : FaultKind
-  BadFetch : FaultKind
-  BadCode : (why : BadInstr) → FaultKind
 
 abbrev pub read : Core → ℕ → Word
 read x r = get_or x.regs r (plain 0)
@@ -117,8 +102,9 @@ jump_to bits h = if bits % 2 == 1 then Ok (record h { exit = Jumps (bits - 1) })
 
 -- what each instruction changes (ARMv7-M ARM, A7.7): MOV and MVN, BX
 abbrev pub change : Instr → Site → Core → Outcome
-change (Move op s d o) site x = upright (with_result s (moved op o x).bits (operand o x).carry (record unchanged { regs = (d, moved op o x) ∷ [] }))
-change (Jump m) site x = jump_to (read x m).bits unchanged
+change (Move i) site x =
+    upright (with_result i.s (moved i.op i.x x).bits (operand i.x x).carry (record unchanged { regs = (i.d, moved i.op i.x x) ∷ [] }))
+change (Jump i) site x = jump_to (read x i.m).bits unchanged
 
 -- carrying a change out
 abbrev pub write_all : List (ℕ × Word) → List Word → List Word

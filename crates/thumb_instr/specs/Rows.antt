@@ -1,47 +1,24 @@
--- Instructions, and the table of rows that says which halfwords stand for them.
-use Rattle.std.specs.Prelude.{ℕ, ◌+◌, ◌-◌, ◌*◌, ◌/◌, ◌%◌, ◌^◌, ◌==◌, nat_le, ◌&&◌, not, Bool, true, false, List, [], ◌∷◌, Result, Ok, Err, if◌then◌else◌}
-use Rattle.guard_cli.specs.Formulas.{Shift}
-
-pub data MoveOp : Type 0 where
-  Mov : MoveOp
-  Mvn : MoveOp
-
--- the second operand: a constant of 12 bits, or a register that is shifted
-pub data Operand : Type 0 where
-  Imm : (imm12 : ℕ) → Operand
-  Reg : (m : ℕ) (kind : Shift) (amount : ℕ) → Operand
-
--- Registers are 0 to 14; 13 is sp, 14 is lr. `s` says that flags are set.
-pub data Instr : Type 0 where
-  Move : (op : MoveOp) (s : Bool) (d : ℕ) (x : Operand) → Instr
-  Jump : (m : ℕ) → Instr
-
--- why halfwords are no instruction of the profile
-pub data BadInstr : Type 0 where
-  Unknown : BadInstr
-  Unpredictable : BadInstr
-  SupervisorCall : BadInstr
-  TableBranch : BadInstr
-  ReadsAndSetsFlags : BadInstr
-  SystemInstr : BadInstr
-  PcOperand : BadInstr
-
--- where an instruction stands: outside of an IT block, in one, or last in one
-pub data ItPlace : Type 0 where
-  Outside : ItPlace
-  Inside : ItPlace
-  Last : ItPlace
+-- The table of rows that says which halfwords stand for an instruction.
+use Rattle.std.specs.Prelude.{ℕ, ◌+◌, ◌-◌, ◌*◌, ◌/◌, ◌%◌, ◌^◌, ◌==◌, nat_le, ◌&&◌, Bool, true, false, List, [], ◌∷◌, Result, Ok, Err, if◌then◌else◌}
+use Rattle.thumb_instr.specs.declared.operands.MoveOp.TheVariants.{Mov}
+use Rattle.thumb_instr.specs.declared.operands.Operand.TheVariants.{Imm}
+use Rattle.thumb_instr.specs.declared.instructions.Instr.{Instr}
+use Rattle.thumb_instr.specs.declared.instructions.Instr.TheVariants.{Move, Jump}
+use Rattle.thumb_instr.specs.declared.refusals.BadInstr.{BadInstr}
+use Rattle.thumb_instr.specs.declared.refusals.BadInstr.TheVariants.{Unknown, Unpredictable, PcOperand}
+use Rattle.thumb_instr.specs.declared.refusals.ItPlace.{ItPlace}
+use Rattle.thumb_instr.specs.declared.refusals.ItPlace.TheVariants.{Outside, Inside, Last}
 
 abbrev pub Answer : Type 0
 Answer = Result Instr BadInstr
 
--- a part of a row's pattern: bits that are fixed, or a field
-pub data Part : Type 0 where
-  Fixed : (width value : ℕ) → Part
-  Field : (width : ℕ) → Part
+-- bits of a row's pattern: fixed ones, or a field
+pub data Bits : Type 0 where
+  Fixed : (width value : ℕ) → Bits
+  Field : (width : ℕ) → Bits
 
 -- what makes an answer of a pattern's fields
-abbrev pub Made : List Part → Type 0
+abbrev pub Made : List Bits → Type 0
 Made [] = Answer
 Made (Fixed w v ∷ ps) = Made ps
 Made (Field w ∷ ps) = ℕ → Made ps
@@ -50,18 +27,18 @@ Made (Field w ∷ ps) = ℕ → Made ps
 abbrev pub cut : ℕ → ℕ → ℕ → ℕ
 cut h top w = h / 2 ^ (top - w) % 2 ^ w
 
-abbrev pub fits : List Part → ℕ → ℕ → Bool
+abbrev pub fits : List Bits → ℕ → ℕ → Bool
 fits [] top h = true
 fits (Fixed w v ∷ ps) top h = (cut h top w == v) && fits ps (top - w) h
 fits (Field w ∷ ps) top h = fits ps (top - w) h
 
-abbrev pub filled_in : (ps : List Part) → Made ps → ℕ → ℕ → Answer
+abbrev pub filled_in : (ps : List Bits) → Made ps → ℕ → ℕ → Answer
 filled_in [] answer top h = answer
 filled_in (Fixed w v ∷ ps) f top h = filled_in ps f (top - w) h
 filled_in (Field w ∷ ps) f top h = filled_in ps (f (cut h top w)) (top - w) h
 
 pub record Row : Type 0 where
-  pub pattern : List Part
+  pub pattern : List Bits
   pub means : Made pattern
 
 -- The first row that fits answers.
@@ -91,11 +68,11 @@ is_inside p = false
 abbrev pub half_rows : ItPlace → List Row
 half_rows place =
     -- MOV (immediate), T1: 00100 ddd i8
-    record { pattern = Fixed 5 4 ∷ Field 3 ∷ Field 8 ∷ []; means = λ d i. Ok (Move Mov (is_outside place) d (Imm i)) }
+    record { pattern = Fixed 5 4 ∷ Field 3 ∷ Field 8 ∷ []; means = λ d i. Ok (Move (record { op = Mov; s = is_outside place; d = d; x = Imm i })) }
     -- BX, T1: 010001110 mmmm 000
     ∷ record {
       pattern = Fixed 9 142 ∷ Field 4 ∷ Fixed 3 0 ∷ [];
-      means = λ m. unless (record { holds = m == 15; why = PcOperand } ∷ record { holds = is_inside place; why = Unpredictable } ∷ []) (Jump m);
+      means = λ m. unless (record { holds = m == 15; why = PcOperand } ∷ record { holds = is_inside place; why = Unpredictable } ∷ []) (Jump (record { m = m }));
     }
     ∷ []
 

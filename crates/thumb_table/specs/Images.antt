@@ -11,15 +11,15 @@ use Rattle.elf_model.specs.Constants.{nobits, local, global, weak, notype, func}
 use Rattle.elf_model.specs.Fields.{same_name}
 use Rattle.elf_model.specs.Objects.{ObjectParts, is_code, is_alloc}
 use Rattle.elf_model.specs.Canonical.{round_up}
-use Rattle.guard_cli.specs.Marks.{Word, Cell, Plain, Return, plain, bare}
-use Rattle.guard_cli.specs.States.{CodeBytes, Memory, Core, State}
+use Rattle.mark_word.specs.declared.marks.Mark.TheVariants.{Return}
+use Rattle.mark_word.specs.Words.{Word, Cell, plain, bare}
+use Rattle.thumb_table.specs.declared.placements.Placement.{Placement}
+use Rattle.thumb_table.specs.Parts.{CodeBytes, Memory, Image}
+use Rattle.thumb_table.specs.declared.parts.Part.{Part}
+use Rattle.thumb_table.specs.declared.parts.NamedEntry.{NamedEntry}
+use Rattle.thumb_table.specs.States.{Core, State}
 
--- where code and data go: code from `base` on, in `room` bytes, then data, then `stack` bytes
-pub record Placement : Type 0 where
-  pub base : ℕ
-  pub room : ℕ
-  pub stack : ℕ
-
+-- A placement is where code and data go: code from `base` on, in `room` bytes, then data, then `stack` bytes.
 pub record IsPlacement (at : Placement) : Type 0 where
   pub base_even : at.base % 4096 ≡ 0
   pub base_fits : at.base < 2 ^ 32
@@ -32,7 +32,7 @@ pub record IsPlacement (at : Placement) : Type 0 where
 
 -- A section in its place: of which object, its number there, its number among the sections of its sort
 -- (code, or data), and where it starts.
-pub record Part : Type 0 where
+pub record Placed : Type 0 where
   pub object : ℕ
   pub index : ℕ
   pub ordinal : ℕ
@@ -44,34 +44,34 @@ abbrev pub is_data : Section → Bool
 is_data s = is_alloc s.flags && not (is_code s)
 
 -- the sections of a sort, in the order of objects and sections, not yet placed
-abbrev pub chosen : (Section → Bool) → ℕ → ℕ → ℕ → List Section → List Part
+abbrev pub chosen : (Section → Bool) → ℕ → ℕ → ℕ → List Section → List Placed
 chosen sort i j k [] = []
 chosen sort i j k (s ∷ rest) =
     if sort s then record { object = i; index = j; ordinal = k; start = 0; section = s } ∷ chosen sort i (j + 1) (k + 1) rest
     else chosen sort i (j + 1) k rest
 
-abbrev pub all_chosen : (Section → Bool) → ℕ → List ObjectParts → List Part
+abbrev pub all_chosen : (Section → Bool) → ℕ → List ObjectParts → List Placed
 all_chosen sort i [] = []
 all_chosen sort i (o ∷ rest) = chosen sort i 0 0 o.sections ++ all_chosen sort (i + 1) rest
 
 -- one behind the other from an address on, each at a multiple of its alignment
-abbrev pub placed : (Section → ℕ) → ℕ → List Part → List Part
+abbrev pub placed : (Section → ℕ) → ℕ → List Placed → List Placed
 placed alignment from [] = []
 placed alignment from (p ∷ rest) =
     let start = round_up from (alignment p.section) in
     record p { start = start } ∷ placed alignment (start + p.section.size) rest
 
-abbrev pub code_parts : List ObjectParts → Placement → List Part
+abbrev pub code_parts : List ObjectParts → Placement → List Placed
 code_parts objects at = placed (λ s. max 4 s.align) at.base (all_chosen is_code 0 objects)
 
-abbrev pub data_parts : List ObjectParts → Placement → List Part
+abbrev pub data_parts : List ObjectParts → Placement → List Placed
 data_parts objects at = placed (λ s. s.align) (at.base + at.room) (all_chosen is_data 0 objects)
 
 -- the bytes of parts from an address on, with zeros between them and in sections without bytes
 abbrev pub part_bytes : Section → List ℕ
 part_bytes s = if s.kind == nobits then replicate s.size 0 else s.bytes
 
-abbrev pub bytes_from : ℕ → List Part → List ℕ
+abbrev pub bytes_from : ℕ → List Placed → List ℕ
 bytes_from from [] = []
 bytes_from from (p ∷ rest) = replicate (p.start - from) 0 ++ part_bytes p.section ++ bytes_from (p.start + p.section.size) rest
 
@@ -111,39 +111,34 @@ abbrev pub resolved : List ObjectParts → List ℕ → Option Defined
 resolved objects name = find (λ d. same_name d.symbol.name name) (globals objects ++ weaks objects)
 
 -- the part that an object's section is in, and where it starts; a section that isn't in memory starts at 0
-abbrev pub part_of : List Part → ℕ → ℕ → Option Part
+abbrev pub part_of : List Placed → ℕ → ℕ → Option Placed
 part_of parts i j = find (λ p. (p.object == i) && (p.index == j)) parts
 
-abbrev pub start_of : Option Part → ℕ
+abbrev pub start_of : Option Placed → ℕ
 start_of None = 0
 start_of (Some p) = p.start
 
-abbrev pub home_start : List Part → ℕ → Home → ℕ
+abbrev pub home_start : List Placed → ℕ → Home → ℕ
 home_start parts i home.Undefined = 0
 home_start parts i home.Absolute = 0
 home_start parts i (home.Section j) = start_of (part_of parts i j)
 
 -- a function in a code section
-abbrev pub is_in_code : List Part → ℕ → Home → Bool
+abbrev pub is_in_code : List Placed → ℕ → Home → Bool
 is_in_code parts i home.Undefined = false
 is_in_code parts i home.Absolute = false
 is_in_code parts i (home.Section j) = is_some_code (part_of parts i j)
   where
-    is_some_code : Option Part → Bool
+    is_some_code : Option Placed → Bool
     is_some_code None = false
     is_some_code (Some p) = is_code p.section
 
-abbrev pub is_function : List Part → Defined → Bool
+abbrev pub is_function : List Placed → Defined → Bool
 is_function parts d = (d.symbol.kind == func) && is_in_code parts d.object d.symbol.home
 
 -- the address of a symbol, its bit 0 with it
-abbrev pub address_of : List Part → Defined → ℕ
+abbrev pub address_of : List Placed → Defined → ℕ
 address_of parts d = home_start parts d.object d.symbol.home + d.symbol.value
-
--- a name and the address of its function, with bit 0 set
-pub record NamedEntry : Type 0 where
-  pub name : List ℕ
-  pub address : ℕ
 
 -- the functions that calls from outside name: each name once, by the definition that it stands for
 abbrev pub is_standing : List ObjectParts → Defined → Option Defined → Bool
@@ -153,7 +148,7 @@ is_standing objects d (Some e) = (d.object == e.object) && (d.index == e.index)
 abbrev pub even : ℕ → ℕ
 even a = a - a % 2
 
-abbrev pub entries_of : List ObjectParts → List Part → List NamedEntry
+abbrev pub entries_of : List ObjectParts → List Placed → List NamedEntry
 entries_of objects parts =
     map (λ d. record { name = d.symbol.name; address = even (address_of parts d) + 1 })
     (filter (λ d. is_function parts d && is_standing objects d (resolved objects d.symbol.name)) (all_symbols 0 objects))
@@ -181,18 +176,17 @@ pub record IsDataStart (o : ObjectParts) (j x : ℕ) : Type 0 where
   pub last : (k : ℕ) (other : Symbol) → index < k → slice_get o.symbols k ≡ Some other → is_mapping other ≡ true → stands_at j x other.home 0 other.value ≡ false
 
 -- A stop is a function's address, the start of data in code, or the end of a code section.
-pub data IsStop (objects : List ObjectParts) (parts : List Part) : ℕ → Type 0 where
+pub data IsStop (objects : List ObjectParts) (parts : List Placed) : ℕ → Type 0 where
   at_function : (d : Defined) → Contains (all_symbols 0 objects) d → is_function parts d ≡ true → IsStop objects parts (even (address_of parts d))
-  at_data : (p : Part) (o : ObjectParts) (x : ℕ) → Contains parts p → is_code p.section ≡ true → slice_get objects p.object ≡ Some o → IsDataStart o p.index x → IsStop objects parts (p.start + x)
-  at_end : (p : Part) → Contains parts p → is_code p.section ≡ true → IsStop objects parts (p.start + p.section.size)
+  at_data : (p : Placed) (o : ObjectParts) (x : ℕ) → Contains parts p → is_code p.section ≡ true → slice_get objects p.object ≡ Some o → IsDataStart o p.index x → IsStop objects parts (p.start + x)
+  at_end : (p : Placed) → Contains parts p → is_code p.section ≡ true → IsStop objects parts (p.start + p.section.size)
 
--- an image; `memory` is its data
-pub record Image : Type 0 where
-  pub code : CodeBytes
-  pub memory : Memory
-  pub room : ℕ
-  pub parts : List Part
-  pub entries : List NamedEntry
+-- all sections in their places, code first
+abbrev pub all_placed : List ObjectParts → Placement → List Placed
+all_placed objects at = code_parts objects at ++ data_parts objects at
+
+abbrev pub as_part : Placed → Part
+as_part p = record { object = p.object; code = is_code p.section; ordinal = p.ordinal; start = p.start; size = p.section.size }
 
 -- what stands in the way of an image
 pub record CanLink (objects : List ObjectParts) (at : Placement) : Type 0 where
@@ -207,15 +201,15 @@ pub record CanLink (objects : List ObjectParts) (at : Placement) : Type 0 where
 pub record IsImage (objects : List ObjectParts) (at : Placement) (image : Image) : Type 0 where
   pub placement : IsPlacement at
   pub can : CanLink objects at
-  pub parts : image.parts ≡ code_parts objects at ++ data_parts objects at
+  pub parts : image.parts ≡ map as_part (all_placed objects at)
   pub code_base : image.code.base ≡ at.base
   pub code_bytes : image.code.bytes ≡ code_bytes_of objects at
   pub marks : image.code.marks ≡ []
-  pub stops : (a : ℕ) → Contains image.code.stops a ↔ IsStop objects image.parts a
+  pub stops : (a : ℕ) → Contains image.code.stops a ↔ IsStop objects (all_placed objects at) a
   pub stops_rise : IsStrictlyIncreasing image.code.stops
   pub memory : image.memory ≡ record { base = at.base + at.room; cells = map bare (data_bytes_of objects at) }
   pub room : image.room ≡ at.room
-  pub entries : image.entries ≡ entries_of objects image.parts
+  pub entries : image.entries ≡ entries_of objects (all_placed objects at)
 
 -- the address that a name's call starts at, with bit 0 set
 abbrev pub entry_of : List NamedEntry → List ℕ → Option ℕ

@@ -1,38 +1,10 @@
--- Words and bytes that carry marks: which of them are addresses of code.
-use Rattle.std.specs.Prelude.{ℕ, zero, suc, ◌+◌, ◌*◌, ◌/◌, ◌%◌, ◌==◌, ◌&&◌, Bool, true, false, List, [], ◌∷◌, map, Option, Some, None, if◌then◌else◌}
-
--- The mark of a word: none, the address of an entry, a return address, or the low half of an entry's address.
--- Bits never depend on marks.
-pub data Mark : Type 0 where
-  Plain : Mark
-  Entry : (address : ℕ) → Mark
-  Return : (address : ℕ) → Mark
-  Low : (address : ℕ) → Mark
-
-pub record Word : Type 0 where
-  pub bits : ℕ
-  pub mark : Mark
-
--- byte number `index` of a word with this mark
-pub record Piece : Type 0 where
-  pub mark : Mark
-  pub index : ℕ
-
--- a byte of memory, and the piece of a marked word that it is, if any
-pub record Cell : Type 0 where
-  pub byte : ℕ
-  pub piece : Option Piece
-
-abbrev pub plain : ℕ → Word
-plain b = record { bits = b; mark = Plain }
-
-abbrev pub bare : ℕ → Cell
-bare b = record { byte = b; piece = None }
-
--- byte k of a number, the lowest first
-abbrev pub byte_of : ℕ → ℕ → ℕ
-byte_of zero n = n % 256
-byte_of (suc k) n = byte_of k (n / 256)
+-- The bytes of a marked word, and the word that four bytes make.
+use Rattle.std.specs.Prelude.{ℕ, ◌+◌, ◌*◌, ◌==◌, ◌&&◌, Bool, true, false, List, [], ◌∷◌, map, Option, Some, None, if◌then◌else◌}
+use Rattle.mark_word.specs.declared.marks.Mark.{Mark}
+use Rattle.mark_word.specs.declared.marks.Mark.TheVariants.{Plain, Entry, Return, Low}
+use Rattle.mark_word.specs.declared.cells.Piece.{Piece}
+use Rattle.mark_word.specs.declared.cells.Joined.{Joined}
+use Rattle.mark_word.specs.Words.{Word, Cell, byte_of, plain}
 
 abbrev pub piece_of : Mark → ℕ → Option Piece
 piece_of Plain k = None
@@ -50,11 +22,6 @@ same_mark (Entry a) (Entry b) = a == b
 same_mark (Return a) (Return b) = a == b
 same_mark (Low a) (Low b) = a == b
 same_mark m n = false
-
--- a word that is read from four bytes, and whether they are all of one word, or of none
-pub record Joined : Type 0 where
-  pub word : Word
-  pub whole : Bool
 
 abbrev pub is_piece : Mark → ℕ → Option Piece → Bool
 is_piece m k None = false

@@ -1,0 +1,115 @@
+//! What is printed.
+
+ghost use Rattle.std.specs.Prelude.{◌≡◌, ◌∷◌, [], IfOk, string_bytes};
+ghost use Rattle.guard_cli.specs.Texts.{usage_line, no_memory_line, read_fault_line, write_fault_line, refused_line, details, yes_or_no, tally_line, report};
+ghost use Rattle.guard_cli.specs.Outcomes.{tally_with};
+
+use elf_model::{Refusal, Spot};
+use std::alloc::{AllocError, Global};
+
+/// What is said of words that are no command.
+pub(crate) fn usage_text() -> &'static str
+    ensures { result.now ≡ usage_line }
+{
+    "usage: skipguard harden, link, run, list or make\n"
+}
+
+/// What is said where memory ran out.
+pub(crate) fn no_memory_text() -> &'static str
+    ensures { result.now ≡ no_memory_line }
+{
+    "no memory\n"
+}
+
+/// What is said of a file that could not be read.
+pub(crate) fn read_fault_text(alloc: Global, name: &str) -> Result<String, AllocError>
+    ensures { IfOk result (λ text. string_bytes text ≡ read_fault_line name.now) }
+{
+    format!(in alloc; "{name}: read fault\n")
+}
+
+/// What is said of a file that could not be written.
+pub(crate) fn write_fault_text(alloc: Global, name: &str) -> Result<String, AllocError>
+    ensures { IfOk result (λ text. string_bytes text ≡ write_fault_line name.now) }
+{
+    format!(in alloc; "{name}: write fault\n")
+}
+
+/// What is said of an input that is refused.
+pub(crate) fn refused_text(alloc: Global, name: &str, spot: &Spot) -> Result<String, AllocError>
+    ensures { IfOk result (λ text. string_bytes text ≡ refused_line name.now spot.now) }
+{
+    let number = spot.refusal.number();
+    let title = spot.refusal.name();
+    let section = spot.section;
+    let offset = spot.offset;
+    let more = details_text(alloc, &spot.refusal)?;
+    format!(in alloc; "{name}: refused {number} {title} section {section} offset {offset}{more}\n")
+}
+
+/// What a refusal says beside its place.
+fn details_text(alloc: Global, refusal: &Refusal) -> Result<String, AllocError>
+    ensures { IfOk result (λ text. string_bytes text ≡ details refusal.now) }
+{
+    match refusal {
+        Refusal::LiveAtEntry { register } | Refusal::LiveAtReturn { register } => {
+            format!(in alloc; " register {register}")
+        }
+        Refusal::NoScratch { need, have, flags } => {
+            let flags = answer_text(*flags);
+            format!(in alloc; " need {need} have {have} flags {flags}")
+        }
+        Refusal::OutOfReach { distance } => format!(in alloc; " distance {distance}"),
+        Refusal::Undefined { symbol } | Refusal::Duplicate { symbol } => {
+            format!(in alloc; " symbol {symbol}")
+        }
+        _ => Ok(String::new(alloc)),
+    }
+}
+
+fn answer_text(answer: bool) -> &'static str
+    ensures { result.now ≡ yes_or_no answer }
+{
+    if answer { "yes" } else { "no" }
+}
+
+/// What is counted of a hardened object.
+#[derive(Clone, Copy, Debug)]
+pub(crate) struct Counts {
+    pub functions: u32,
+    pub before: u32,
+    pub after: u32,
+    pub old_bytes: u32,
+    pub new_bytes: u32,
+    pub dropped: u32,
+    pub factor: u32,
+}
+
+/// The report on one output: its line, and the greatest factor.
+pub(crate) fn report_text(
+    alloc: Global,
+    output: &str,
+    counts: &Counts,
+) -> Result<String, AllocError>
+    ensures { IfOk result (λ text. string_bytes text ≡ report (tally_with output.now counts.now ∷ [])) }
+{
+    let line = tally_text(alloc, output, counts)?;
+    let factor = counts.factor.max(1);
+    format!(in alloc; "{line}factor {factor}\n")
+}
+
+/// The line of one output.
+fn tally_text(alloc: Global, output: &str, counts: &Counts) -> Result<String, AllocError>
+    ensures { IfOk result (λ text. string_bytes text ≡ tally_line (tally_with output.now counts.now)) }
+{
+    let functions = counts.functions;
+    let before = counts.before;
+    let after = counts.after;
+    let old_bytes = counts.old_bytes;
+    let new_bytes = counts.new_bytes;
+    let dropped = counts.dropped;
+    let factor = counts.factor;
+    format!(in alloc;
+        "{output}: {functions} functions, {before} -> {after} instructions, {old_bytes} -> {new_bytes} bytes, {dropped} dropped, factor {factor}\n"
+    )
+}
