@@ -8,7 +8,9 @@ use Rattle.std.proofs.lemmas.List.Concat.{flat_map-append}
 use Rattle.std.proofs.lemmas.List.Elements.{filter-append}
 use Rattle.elf_model.specs.Constants.{rel, symtab, undefined_index, absolute_index}
 use Rattle.elf_model.specs.Fields.{half_at, word_at}
-use Rattle.elf_model.specs.Files.{from, header, header_count, headers, is_kept, kept_headers, is_kept_symbol, kept_symbols, symbol_table, symbol_places, section_number, symbol_number, is_reloc_table, entries_of, reloc_entries, reloc_of, IsKind}
+use Rattle.elf_model.specs.Files.{from, header, header_count, headers, is_kept, kept_headers, is_kept_symbol, kept_symbols, symbol_table, symbol_places, section_number, symbol_number, is_reloc_table, entries_of, reloc_entries, reloc_of, home_of, IsKind}
+use Rattle.elf_model.specs.declared.objects.Reloc.{Reloc}
+use Rattle.elf_model.specs.declared.objects.Home.TheVariants as home
 use Rattle.elf_model.proofs.Lists.{count_cons, map-map}
 use Rattle.elf_read.specs.Faults.{IsHeader, IsRelocAt, IsKeptSymbol}
 use Rattle.elf_read.specs.HeaderFaults.{IsTabled}
@@ -42,9 +44,25 @@ push_kept_from_one f p g h pre old new l made so_far =
     push_kept f p g 1 (h - 1) pre old new (subst (λ (k : ℕ). new ≡ old ++ cond (p (f k)) (g (f k) ∷ []) []) (sym here) made) so_far
     ∙ ap (λ (k : ℕ). pre ++ map g (filter p (map f (from 1 k)))) next
 
+-- headers that are kept, from one on
+pub push_header : {Y : Type 0} (p : ℕ → Bool) (g : ℕ → Y) (h : ℕ) (old new : List Y) → 1 ≤ h → new ≡ old ++ cond (p h) (g h ∷ []) [] → old ≡ map g (filter p (from 1 (h - 1))) → new ≡ map g (filter p (from 1 ((h + 1) - 1)))
+push_header p g h old new l made so_far =
+    let plain : (n : ℕ) → map g (filter p (map (λ (k : ℕ). k) (from 1 n))) ≡ map g (filter p (from 1 n)) = λ n. ap (λ (xs : List ℕ). map g (filter p xs)) (map-id (from 1 n)) in
+    push_kept_from_one (λ k. k) p g h [] old new l made (so_far ∙ sym (plain (h - 1))) ∙ plain ((h + 1) - 1)
+
+pub symbols_made : {Y : Type 0} (g : ℕ → Y) (b : List ℕ) (t at n : ℕ) (new old : List Y) → new ≡ old ++ map g (filter (is_kept_symbol b) (map (λ k. at + 16 * k) (from 1 (n - 1)))) → old ≡ [] → at ≡ (header b t).offset → n ≡ (header b t).size / 16 → symbol_table b ≡ Some t → new ≡ map g (kept_symbols b)
+symbols_made g b t at n new old made none place many found =
+    made ∙ ap (λ (xs : List _). xs ++ map g (filter (is_kept_symbol b) (map (λ k. at + 16 * k) (from 1 (n - 1))))) none
+    ∙ ap (λ (p : ℕ). map g (filter (is_kept_symbol b) (map (λ k. p + 16 * k) (from 1 (n - 1))))) place
+    ∙ ap (λ (m : ℕ). map g (filter (is_kept_symbol b) (map (λ k. (header b t).offset + 16 * k) (from 1 (m - 1))))) many
+    ∙ ap (λ (o : Option ℕ). map g (filter (is_kept_symbol b) (symbol_places b o))) (sym found)
+
+pub no_symbols_made : {Y : Type 0} (g : ℕ → Y) (b : List ℕ) (new : List Y) → new ≡ [] → symbol_table b ≡ None → new ≡ map g (kept_symbols b)
+no_symbols_made g b new none found = none ∙ ap (λ (o : Option ℕ). map g (filter (is_kept_symbol b) (symbol_places b o))) (sym found)
+
 -- counts
 
-none_less : {X : Type 0} (f : ℕ → ℕ) (p : ℕ → Bool) (first n x : ℕ) → ((k : ℕ) → first ≤ k → x ≤ f k) → count_by (λ e. nat_lt e x) (filter p (map f (from first n))) ≡ 0
+pub none_less : (f : ℕ → ℕ) (p : ℕ → Bool) (first n x : ℕ) → ((k : ℕ) → first ≤ k → x ≤ f k) → count_by (λ e. nat_lt e x) (filter p (map f (from first n))) ≡ 0
 none_less f p first zero x a = refl
 none_less f p first (suc n) x a = go (none_less f p (first + 1) n x (λ k l. a k (omega arith))) (p (f first))
   where
@@ -57,7 +75,7 @@ none_less f p first (suc n) x a = go (none_less f p (first + 1) n x (λ k l. a k
 -- as many are below the number of k as flags are set before k
 count_below : (f : ℕ → ℕ) (p : ℕ → Bool) (first n j : ℕ) → ((i k : ℕ) → i < k → f i < f k) → j ≤ n → count_by (λ e. nat_lt e (f (first + j))) (filter p (map f (from first n))) ≡ count_by (λ (t : Bool). t) (take j (map (λ k. p (f k)) (from first n)))
 count_below f p first n zero up l =
-    none_less {X = ℕ} f p first n (f (first + 0)) (λ k a. elim (cases_eq k first) [
+    none_less f p first n (f (first + 0)) (λ k a. elim (cases_eq k first) [
       | inl e ↦ (let s : f (first + 0) ≡ f k = (let z : first + 0 ≡ k = omega (arith, e) in ap f z) in omega (arith, s))
       | inr d ↦ (let m = up (first + 0) k (omega (arith, a, d)) in omega (arith, m))
     ])
@@ -78,7 +96,7 @@ count_below f p first (suc n) (suc j) up l =
 
 -- behind the null entry
 count_before : (f : ℕ → ℕ) (p : ℕ → Bool) (n k : ℕ) → ((i k : ℕ) → i < k → f i < f k) → k ≤ n → count_by (λ e. nat_lt e (f k)) (filter p (map f (from 1 n))) ≡ count_by (λ (t : Bool). t) (take k (false ∷ map (λ k. p (f k)) (from 1 n)))
-count_before f p n zero up l = none_less {X = ℕ} f p 1 n (f 0) (λ k a. let m = up 0 k (omega arith) in omega (arith, m))
+count_before f p n zero up l = none_less f p 1 n (f 0) (λ k a. let m = up 0 k (omega arith) in omega (arith, m))
 count_before f p n (suc k) up l =
     let same : 1 + k ≡ suc k = omega arith in
     ap (λ (i : ℕ). count_by (λ e. nat_lt e (f i)) (filter p (map f (from 1 n)))) (sym same) ∙ count_below f p 1 n k up (omega arith)
@@ -138,13 +156,13 @@ entries_more b h l =
     ∙ ap (λ (k : ℕ). entries_up_to b h ++ filter (is_some_reloc b) (flat_map (entries_of b) (filter p (k ∷ [])))) here
     ∙ ap (λ (xs : List (ℕ × ℕ)). entries_up_to b h ++ filter (is_some_reloc b) xs) (flat_one b h)
 
-pub relocs_some : (b : List ℕ) (h : ℕ) (old new : List _) → IsTabled b → IsHeader b h → is_kept_relocs b h ≡ true → new ≡ old ++ map (reloc_of b) (filter (is_some_reloc b) (entries_of b h)) → old ≡ map (reloc_of b) (entries_up_to b h) → new ≡ map (reloc_of b) (entries_up_to b (h + 1))
-relocs_some b h old new tabled i k made so_far =
-    made ∙ ap (λ (xs : List _). xs ++ map (reloc_of b) (filter (is_some_reloc b) (entries_of b h))) so_far
-    ∙ sym (ap (map (reloc_of b)) (entries_more b h i.behind_null ∙ ap (λ (t : Bool). entries_up_to b h ++ filter (is_some_reloc b) (cond t (entries_of b h) [])) (reloc_table_is b h tabled i ∙ k))
-    ∙ map-append (reloc_of b) (entries_up_to b h) (filter (is_some_reloc b) (entries_of b h)))
+pub push_header_relocs : (b : List ℕ) (h : ℕ) (old new : List Reloc) → IsTabled b → IsHeader b h → new ≡ old ++ map (reloc_of b) (filter (is_some_reloc b) (cond (is_kept_relocs b h) (entries_of b h) [])) → old ≡ map (reloc_of b) (entries_up_to b h) → new ≡ map (reloc_of b) (entries_up_to b (h + 1))
+push_header_relocs b h old new tabled i made so_far =
+    made ∙ ap (λ (xs : List Reloc). xs ++ map (reloc_of b) (filter (is_some_reloc b) (cond (is_kept_relocs b h) (entries_of b h) []))) so_far
+    ∙ sym (ap (map (reloc_of b)) (entries_more b h i.behind_null ∙ ap (λ (t : Bool). entries_up_to b h ++ filter (is_some_reloc b) (cond t (entries_of b h) [])) (reloc_table_is b h tabled i))
+    ∙ map-append (reloc_of b) (entries_up_to b h) (filter (is_some_reloc b) (cond (is_kept_relocs b h) (entries_of b h) [])))
 
-pub relocs_none : (b : List ℕ) (h : ℕ) (old : List _) → IsTabled b → IsHeader b h → is_kept_relocs b h ≡ false → old ≡ map (reloc_of b) (entries_up_to b h) → old ≡ map (reloc_of b) (entries_up_to b (h + 1))
-relocs_none b h old tabled i k so_far =
-    so_far ∙ sym (ap (map (reloc_of b)) (entries_more b h i.behind_null ∙ ap (λ (t : Bool). entries_up_to b h ++ filter (is_some_reloc b) (cond t (entries_of b h) [])) (reloc_table_is b h tabled i ∙ k)
-    ∙ append-nil (entries_up_to b h)))
+pub home_section : (b : List ℕ) (i n : ℕ) → i ≢ undefined_index → i ≢ absolute_index → n ≡ section_number b i → home.Section n ≡ home_of b i
+home_section b i n other far e =
+    ap (λ (k : ℕ). home.Section k) e ∙ sym (ap (λ (t : Bool). if t then home.Undefined else if i == absolute_index then home.Absolute else home.Section (section_number b i)) (ne_eqb i undefined_index other)
+    ∙ ap (λ (t : Bool). if t then home.Absolute else home.Section (section_number b i)) (ne_eqb i absolute_index far))

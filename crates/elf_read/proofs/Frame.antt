@@ -1,5 +1,5 @@
 -- The canonical file of an object of the first form is the file around its code.
-use Rattle.std.proofs.Common.{◌≡◌, ℕ, ◌+◌, ◌-◌, ◌*◌, ◌/◌, ◌≤◌, List, [], ◌∷◌, ◌++◌, length, replicate, take, drop, refl, sym, ap, ◌∙◌, ◌<◌, ◌^◌, arith}
+use Rattle.std.proofs.Common.{◌≡◌, ℕ, ◌+◌, ◌-◌, List, [], ◌∷◌, ◌++◌, length, replicate, take, drop, refl, sym, ap, ◌∙◌, ◌<◌, ◌^◌, arith}
 use Rattle.std.proofs.Math.Seq.{take-append_seam, take-length, drop-append-add}
 use Rattle.byteorder.specs.Endian.{little_number}
 use Rattle.byteorder.specs.Numbers.{little_number-reads_back}
@@ -7,9 +7,8 @@ use Rattle.std.specs.List.{flat_map}
 use Rattle.elf_model.specs.Fields.{word}
 use Rattle.std.proofs.lemmas.List.{append_assoc, append-nil, length-append, length-drop, length-replicate}
 use Rattle.elf_model.specs.Canonical.{canonical, round_up}
-use Rattle.elf_model.specs.Objects.{ObjectParts}
 use Rattle.elf_read.specs.FirstForm.{first_object, code_bytes}
-use Rattle.elf_read.specs.FirstFile.{object_with, first_file, file_around, symbols_at, head, tail, names, symbol_words, header_words}
+use Rattle.elf_read.specs.FirstFile.{object_with, first_file, symbols_at, head, tail, names, symbol_words, header_words}
 
 round_up-one : (at : ℕ) → round_up at 1 ≡ at
 round_up-one at = omega arith

@@ -29,17 +29,17 @@ symbol_table_is b t tabled k =
     find_one (λ h. (header b h).kind == symtab) (header_count b - 1) t (omega (arith, k.0)) (omega (arith, k.0, k.1)) (eq-eqb _ _ k.2)
     (λ j l u. ne_eqb (header b j).kind symtab (λ e. let same = tabled.one_symbol_table j t (omega (arith, l), omega (arith, u, k.1), e) k in omega (arith, same, u)))
 
-past : (flags : List Bool) (k : ℕ) → flag_at flags k ≡ true → k < length flags
+pub past : (flags : List Bool) (k : ℕ) → flag_at flags k ≡ true → k < length flags
 past [] k h = absurd (false≢true h)
 past (x ∷ xs) zero h = omega arith
 past (x ∷ xs) (suc k) h = let r = past xs k h in omega (arith, r)
 
-length_made : {X : Type 0} (f : ℕ → X) (first n : ℕ) → length (map f (from first n)) ≡ n
+pub length_made : {X : Type 0} (f : ℕ → X) (first n : ℕ) → length (map f (from first n)) ≡ n
 length_made f first zero = refl
 length_made f first (suc n) = ap suc (length_made f (first + 1) n)
 
 -- the flags where there is a symbol table
-flags_are : (b : List ℕ) (t : ℕ) → symbol_table b ≡ Some t → symbol_flags b ≡ false ∷ map (λ k. is_kept_symbol b ((header b t).offset + 16 * k)) (from 1 ((header b t).size / 16 - 1))
+pub flags_are : (b : List ℕ) (t : ℕ) → symbol_table b ≡ Some t → symbol_flags b ≡ false ∷ map (λ k. is_kept_symbol b ((header b t).offset + 16 * k)) (from 1 ((header b t).size / 16 - 1))
 flags_are b t e =
     ap (λ (o : Option ℕ). false ∷ map (is_kept_symbol b) (symbol_places b o)) e
     ∙ ap (λ (xs : List Bool). false ∷ xs) (map-map (is_kept_symbol b) (λ k. (header b t).offset + 16 * k) (from 1 ((header b t).size / 16 - 1)))
@@ -111,3 +111,14 @@ module _ (b : List ℕ) (tabled : IsTabled b) (homes : HasHomes b) where
       let at = symbol_there b k (symbol_table b) refl h in
       let e : ℕ = (header b at.0).offset + 16 * k in
       record { table = at.0; e = e; stands = at.1; home = home_of e (sym (symbol_flag_is b at.0 k e tabled at.1) ∙ h) }
+
+-- the section that a symbol is kept with
+pub kept_home : (b : List ℕ) (e : ℕ) → is_kept_symbol b e ≡ true → half_at b (e + 14) ≢ undefined_index → half_at b (e + 14) ≢ absolute_index → IsHeader b (half_at b (e + 14)) × (is_kept b (half_at b (e + 14)) ≡ true)
+kept_home b e h other far =
+    let i : ℕ = half_at b (e + 14) in
+    let all = kept_symbol_is b e in
+    let flag : flag_at (kept_flags b) i ≡ true = ap (λ (t : Bool). (t || flag_at (kept_flags b) i)) (sym (ne_eqb i absolute_index far)) ∙ ap (λ (t : Bool). t || ((i == absolute_index) || flag_at (kept_flags b) i)) (sym (ne_eqb i undefined_index other)) ∙ sym all ∙ h in
+    let l : i < length (kept_flags b) = past (kept_flags b) i flag in
+    let long : length (map (is_kept b) (from 1 (header_count b - 1))) ≡ header_count b - 1 = length_made (is_kept b) 1 (header_count b - 1) in
+    let there : IsHeader b i = record { behind_null = omega (arith, other); there = omega (arith, l, long, other) } in
+    (there, sym (flag_is b i there) ∙ flag)

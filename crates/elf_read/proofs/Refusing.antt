@@ -4,8 +4,8 @@ use Rattle.elf_model.specs.Canonical.{canonical}
 use Rattle.elf_model.specs.declared.refusals.Refusal.TheVariants.{NotYet}
 use Rattle.elf_model.specs.declared.refusals.Deny.{Deny}
 use Rattle.elf_model.specs.declared.refusals.Deny.TheVariants.{Refused}
-use Rattle.elf_read.specs.FirstForm.{HasFirstForm, IsElf, IsFirstObject, IsDenied, at_start, code_bytes}
-use Rattle.elf_read.specs.FirstFile.{IsFirstBytes, first_file, object_with}
+use Rattle.elf_read.specs.FirstForm.{HasFirstForm, IsElf, IsDenied, at_start, code_bytes}
+use Rattle.elf_read.specs.FirstFile.{IsFirstBytes, first_file}
 use Rattle.elf_read.proofs.Frame.{canonical-first}
 
 -- the code of a file of the first form

@@ -1,19 +1,14 @@
 -- A file of the first form stands for its object.
-use Rattle.std.proofs.Common.{◌≡◌, ℕ, ◌+◌, ◌-◌, ◌≤◌, ◌<◌, ◌^◌, true, eqb, leb, List, [], ◌∷◌, length, refl, sym, ap, subst, ◌∙◌, arith, lit<}
-use Rattle.std.specs.Prelude.{All, IsTrue}
-use Rattle.std.proofs.lemmas.Bool.{eq-eqb}
+use Rattle.std.proofs.Common.{◌≡◌, ℕ, ◌≤◌, ◌<◌, ◌^◌, true, List, [], ◌∷◌, length, refl, sym, ap, subst, arith, lit<}
 use Rattle.std.proofs.lemmas.Bool.Decides.{nat_tests}
 use Rattle.std.proofs.lemmas.List.Elements.{All-cons}
-use Rattle.elf_model.specs.declared.objects.Section.{Section}
-use Rattle.elf_model.specs.declared.objects.Symbol.{Symbol}
-use Rattle.elf_model.specs.declared.objects.Reloc.{Reloc}
 use Rattle.elf_model.specs.Objects.{ObjectParts, is_object}
 use Rattle.elf_model.specs.Canonical.{canonical}
 use Rattle.elf_model.specs.Files.{StandsFor}
-use Rattle.elf_model.specs.Fits.{Fits, SectionFits, SymbolFits, RelocFits}
-use Rattle.elf_model.proofs.Stands.{stands_bare}
+use Rattle.elf_model.specs.Fits.{Fits, SectionFits, SymbolFits}
+use Rattle.elf_model.proofs.Stands.{stands}
 use Rattle.elf_read.specs.FirstForm.{text_section, code_symbol, function_symbol}
-use Rattle.elf_read.specs.FirstFile.{object_with, first_file, symbols_at}
+use Rattle.elf_read.specs.FirstFile.{object_with, first_file}
 use Rattle.elf_read.proofs.Frame.{canonical-first, length-first}
 
 is_sound : (code : List ℕ) → is_object (object_with code) ≡ true
@@ -39,5 +34,5 @@ fits code short = record {
 
 pub stands_first : (bytes code : List ℕ) (o : ObjectParts) → length code ≤ 65536 → bytes ≡ canonical o → o ≡ object_with code → StandsFor bytes o
 stands_first bytes code o short file is =
-    let law = stands_bare (object_with code) (is_sound code) (fits code short) refl in
+    let law = stands (object_with code) (is_sound code) (fits code short) in
     subst (λ (b : List ℕ). StandsFor b o) (sym file) (subst (λ (x : ObjectParts). StandsFor (canonical x) x) (sym is) law)

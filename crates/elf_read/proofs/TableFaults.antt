@@ -40,10 +40,10 @@ test_no : {P : Type 0} (b : Bool) → (P → b ≡ true) → not b ≡ true → 
 test_no b f n p = false≢true (sym (not-true b n) ∙ f p)
 
 -- a number that isn't another
-other : (m n : ℕ) → (m ≡ n → ⊥) → not (eqb m n) ≡ true
+pub other : (m n : ℕ) → (m ≡ n → ⊥) → not (eqb m n) ≡ true
 other m n h = no_test (eqb m n) (eqb-true m n) h
 
-others : (m n : ℕ) → not (eqb m n) ≡ true → m ≡ n → ⊥
+pub others : (m n : ℕ) → not (eqb m n) ≡ true → m ≡ n → ⊥
 others m n h = test_no (eqb m n) (eq-eqb m n) h
 
 -- a symbol table stands behind the null header and before this one
@@ -246,9 +246,10 @@ first_in_file b l d some e =
 pub first_in_header : (b : List ℕ) (l : Limit) (h d : ℕ) → IsHeader b h → NoneBelow b h → Some d ≡ first_of (tests_of b h)
     → Fault b l BadTable h (header_place b h + d) × ((s o : ℕ) → Fault b l BadTable s o → (s < h) ⊎ ((s ≡ h) × (o < header_place b h + d)) → ⊥)
 first_in_header b l h d i none e =
-    let first = some_of 0 (tests_of b h) d refl e in
-    (at_header b l h i d first.0,
-    λ s o f below. elim below [ inl lt ↦ none s o lt (found b l s o f) | inr at ↦ before_in_header b h d i first.1 s o at.0 at.1 (found b l s o f) ])
+    let first = some_of 0 (tests_of b h) d refl e in (
+      at_header b l h i d first.0,
+      λ s o f below. elim below [ inl lt ↦ none s o lt (found b l s o f) | inr at ↦ before_in_header b h d i first.1 s o at.0 at.1 (found b l s o f) ],
+    )
 
 -- the last offset of a header
 pub small_field : (b : List ℕ) (h d : ℕ) → Some d ≡ first_of (tests_of b h) → d ≤ 36

@@ -6,3 +6,6 @@ pub mod Keeping
 pub mod Places
 pub mod HeaderFaults
 pub mod RelocFaults
+pub mod Texts
+pub mod SymbolFaults
+pub mod FirstFaults

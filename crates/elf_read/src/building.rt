@@ -11,7 +11,9 @@ ghost use Rattle.elf_read.specs.Keeping.{kept_flags, symbol_flags, AreCounts, Ha
 ghost use Rattle.elf_read.specs.RelocFaults.{pair_cmp};
 
 use crate::headers::{count, half, header_at, word};
-use crate::keeping::{contents, flag, is_kept_symbol, kept_at, section_name, symtab_of, text_at};
+use crate::keeping::{is_kept_symbol, kept_at, section_name, text_at};
+use crate::names::symtab_of;
+use crate::strings::contents;
 use crate::limits::is_kept_relocs;
 use crate::tables::NOBITS;
 use elf_model::{Bytes, Home, Name, Reloc, RelocKind, Section, Symbol};
@@ -295,6 +297,30 @@ fn push_relocs(
     Ok(())
 }
 
+/// Adds the relocations of a header, if they are of a section that is kept.
+fn push_kept_relocs(
+    bytes: &[u8],
+    h: usize,
+    kept: &[bool],
+    numbers: &[u32],
+    symbols: &[u32],
+    relocs: &mut Vec<Reloc>,
+) -> Result<(), AllocError>
+    requires tabled { IsTabled bytes.now }
+    requires homes { HasHomes bytes.now }
+    requires named { HasSymbols bytes.now }
+    requires kept { kept.now ≡ kept_flags bytes.now }
+    requires numbers { AreCounts (kept_flags bytes.now) numbers.now }
+    requires symbols { AreCounts (symbol_flags bytes.now) symbols.now }
+    requires listed { IsHeader bytes.now h }
+    ensures { OnOk result (relocs.new.items ≡ relocs.old.items ++ map (reloc_of bytes.now) (filter (is_some_reloc bytes.now) (if is_kept_relocs bytes.now h then entries_of bytes.now h else []))) }
+{
+    if !is_kept_relocs(bytes, kept, h) {
+        return Ok(());
+    }
+    push_relocs(bytes, h, numbers, symbols, relocs)
+}
+
 /// The relocations of the object, in the order of the file.
 fn unsorted_relocs(
     alloc: Global,
@@ -313,9 +339,7 @@ fn unsorted_relocs(
 {
     let mut relocs = Vec::new(alloc);
     for h in 1..count(bytes) {
-        if is_kept_relocs(bytes, kept, h) {
-            push_relocs(bytes, h, numbers, symbols, &mut relocs)?;
-        }
+        push_kept_relocs(bytes, h, kept, numbers, symbols, &mut relocs)?;
     }
     Ok(relocs)
 }

@@ -1,7 +1,7 @@
 //! Which sections and symbols of a file are kept.
 
 ghost use Rattle.std.specs.Prelude.{◌≡◌, ◌≤◌, ◌<◌, ◌+◌, ◌^◌, ℕ, List, length, IfOk, OnOk, Some, map, ◌++◌, ◌-◌, ◌*◌, ◌/◌, not, ◌&&◌, ◌||◌, ◌==◌};
-ghost use Rattle.std.specs.Prelude.{◌≢◌, drop, IfSome};
+ghost use Rattle.std.specs.Prelude.{◌≢◌, drop};
 ghost use Rattle.std.specs.List.{before_first};
 ghost use Rattle.elf_model.specs.Constants.{symtab, strtab, nobits};
 ghost use Rattle.elf_model.specs.Files.{header, header_count, contents, is_dropped, is_kept, is_kept_symbol, text_at, section_name, symbol_table, from, IsKind};
@@ -9,8 +9,9 @@ ghost use Rattle.elf_read.specs.Keeping.{kept_flags, symbol_flags, flag_at, AreC
 ghost use Rattle.elf_read.specs.HeaderFaults.{IsTabled};
 ghost use Rattle.elf_read.specs.Faults.{IsHeader};
 
-use crate::headers::{Header, count, half, header_at};
-use crate::tables::SYMTAB;
+use crate::headers::{count, half, header_at};
+use crate::names::symtab_of;
+use crate::strings::contents;
 use crate::kinds::{ARM_EXIDX, is_alloc, is_dropped_name, is_kept_kind, is_refused_kind, is_table};
 use std::alloc::{AllocError, Global};
 
@@ -24,18 +25,6 @@ fn until_nul(text: &[u8]) -> &[u8]
         }
     }
     text
-}
-
-/// The contents of a section that has bytes in the file.
-pub(crate) fn contents(bytes: &[u8], h: usize) -> &[u8]
-    requires tabled { IsTabled bytes.now }
-    requires listed { IsHeader bytes.now h }
-    requires stored { (header bytes.now h).kind ≢ nobits }
-    ensures { result.now ≡ contents bytes.now h }
-{
-    let header = header_at(bytes, h);
-    let start = header.offset as usize;
-    &bytes[start..start + header.size as usize]
 }
 
 /// What stands from a place on, or nothing where the place is behind the end.
@@ -97,20 +86,6 @@ pub(crate) fn kept_flags(alloc: Global, bytes: &[u8]) -> Result<Vec<bool>, Alloc
         flags.push(is_kept(bytes, h))?;
     }
     Ok(flags)
-}
-
-/// The symbol table, if there is one.
-pub(crate) fn symtab_of(bytes: &[u8]) -> Option<usize>
-    requires { IsTabled bytes.now }
-    ensures found { result ≡ symbol_table bytes.now }
-    ensures kind { IfSome result (λ t. IsKind bytes.now t symtab) }
-{
-    for h in 1..count(bytes) {
-        if header_at(bytes, h).kind == SYMTAB {
-            return Some(h);
-        }
-    }
-    None
 }
 
 /// The flag of a number, which is not set where there is none.

@@ -14,8 +14,12 @@ mod headers;
 mod keeping;
 mod kinds;
 mod limits;
+mod malformed;
+mod names;
 mod places;
 mod reloc_faults;
+mod strings;
+mod symbols;
 mod tables;
 mod unhandled;
 #[cfg(test)]

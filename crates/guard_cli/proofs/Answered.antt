@@ -1,12 +1,12 @@
 -- Where nothing fails outside, an input of the first form is hardened, unless memory runs out.
-use Rattle.std.proofs.Common.{◌≡◌, ◌<◌, ◌≤◌, ◌⊎◌, inl, inr, ℕ, List, Option, Some, IsTrue, length, refl, sym, ap, ◌∙◌, subst, arith}
+use Rattle.std.proofs.Common.{◌≡◌, inl, inr, ℕ, List, Some, IsTrue, length, refl, sym, ap, ◌∙◌, subst, arith}
 use Rattle.elf_model.specs.Canonical.{canonical}
 use Rattle.elf_model.specs.declared.refusals.Spot.{Spot}
-use Rattle.elf_read.specs.FirstForm.{HasFirstForm, IsElf, first_object}
+use Rattle.elf_read.specs.FirstForm.{HasFirstForm, IsElf}
 use Rattle.guard_cli.specs.declared.endings.Ending.{Ending}
 use Rattle.guard_cli.specs.declared.endings.Ending.TheVariants.{Done, Refused, Usage, ReadFault, WriteFault, PrintFault, NoMemory}
 use Rattle.guard_cli.specs.Words.{Pair}
-use Rattle.guard_cli.specs.Runs.{Files, Screen, EndsAs, IsCalm, IsDoneOrNoMemory, IsInputRefusal, file_limit}
+use Rattle.guard_cli.specs.Runs.{Files, Screen, EndsAs, IsCalm, IsDoneOrNoMemory, IsInputRefusal}
 use Rattle.guard_cli.proofs.Lengths.{first_is_short, first_is_elf}
 
 some_same : {x y : List ℕ} → Some x ≡ Some y → x ≡ y

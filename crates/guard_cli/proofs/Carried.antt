@@ -1,15 +1,16 @@
 -- What a step knows, carried to the whole command.
-use Rattle.std.proofs.Common.{◌≡◌, ◌≢◌, ◌<◌, ◌≤◌, ◌⊎◌, inl, inr, ℕ, ◌+◌, List, [], ◌∷◌, ◌++◌, length, take, Option, Some, None, IsTrue, IsSome, refl, sym, ap, ◌∙◌, subst, arith}
+use Rattle.std.proofs.Common.{◌≡◌, ◌≢◌, ◌<◌, ◌≤◌, inl, inr, ℕ, List, [], length, Option, Some, None, IsTrue, refl, sym, ap, ◌∙◌, subst, arith}
 use Rattle.std.proofs.lemmas.List.{length-take, take_all}
 use Rattle.guard_io.specs.Outside.{Rose, IsLoaded, IsPartlySaved}
 use Rattle.elf_model.specs.declared.refusals.Spot.{Spot}
 use Rattle.elf_model.specs.Canonical.{canonical}
-use Rattle.elf_read.specs.FirstForm.{IsFirstCode, first_object}
+use Rattle.elf_read.specs.FirstForm.{first_object}
 use Rattle.guard_cli.specs.declared.endings.Ending.{Ending}
 use Rattle.guard_cli.specs.declared.endings.Ending.TheVariants.{Done, Refused, Usage, ReadFault, WriteFault, PrintFault, NoMemory}
 use Rattle.guard_cli.specs.Words.{Pair}
-use Rattle.guard_cli.specs.Runs.{Files, Screen, SameBut, Untouched, IsSaved, IsHalfSaved, IsPut, IsCutOff, IsToldOf, IsInputRefusal, file_limit, IsRead, IsDone, IsRefusedFor, IsUnread, IsUnsaved, IsUnsaid, IsUntouchedOrSaved, EndsAs, output_of, report_of}
+use Rattle.guard_cli.specs.Runs.{Files, Screen, SameBut, Untouched, IsSaved, IsHalfSaved, IsPut, IsInputRefusal, file_limit, IsRead, IsDone, EndsAs, output_of, report_of}
 use Rattle.guard_cli.specs.Outcomes.{IsDecided, ReportEndsAs}
+use Rattle.guard_cli.proofs.Promised.{promised}
 
 -- A file of which less was loaded than might have been was loaded whole.
 pub loaded_whole : (content : Option (List ℕ)) (most : ℕ) (bytes : List ℕ) → IsLoaded content most bytes → length bytes < most → content ≡ Some bytes
@@ -31,10 +32,21 @@ refused_whole (Some file) most bytes spot h large (inr short) =
     let low = short.0 in
     (bytes, loaded_whole (Some file) most bytes h (omega arith), inr short)
 
+-- What was read and saved is hardened, so it is done once it is said.
+done_of : (p : Pair) (halves : List ℕ) (old new : Files) (screen after : Screen) → IsRead p old halves → IsSaved p.output (output_of halves) old new
+    → IsPut (report_of p halves) screen after → IsDone p old new screen after halves
+done_of p halves old new screen after read saved said = record {
+  read = read;
+  saved = saved;
+  said = said;
+  hardened = λ told picked pick. promised p halves read.code old.content new.content (canonical (first_object halves)) (output_of halves) refl refl
+      (read.file told) (saved.whole told) picked pick;
+}
+
 -- how a command ends that has saved the output
 pub ends_saved : (p : Pair) (halves : List ℕ) (old new : Files) (screen after : Screen) (ending : Ending) → IsRead p old halves → IsSaved p.output (output_of halves) old new
     → ReportEndsAs (report_of p halves) screen after ending → EndsAs p old new screen after ending
-ends_saved p halves old new screen after Done read saved said = (halves, record { read = read; saved = saved; said = said })
+ends_saved p halves old new screen after Done read saved said = (halves, done_of p halves old new screen after read saved said)
 ends_saved p halves old new screen after PrintFault read saved said = (halves, record { read = read; saved = saved; cause = said })
 ends_saved p halves old new screen after NoMemory read saved said = (inr (halves, read, saved), said)
 ends_saved p halves old new screen after (Refused spot) read saved said = absurd said
@@ -64,31 +76,36 @@ saved_before name bytes old mid new same saved = record { others = others_before
 
 half_saved_before : (name bytes : List ℕ) (old mid new : Files) → Untouched old mid → IsHalfSaved name bytes mid new → IsHalfSaved name bytes old new
 half_saved_before name bytes old mid new same saved = record {
-    others = others_before name old mid new same saved.others;
-    part = λ told. subst (λ was. IsPartlySaved was bytes (new.content name)) (same.each name) (saved.part (told_before old mid same told))
-  }
+  others = others_before name old mid new same saved.others;
+  part = λ told. subst (λ was. IsPartlySaved was bytes (new.content name)) (same.each name) (saved.part (told_before old mid same told));
+}
 
 untouched_before : (old mid new : Files) → Untouched old mid → Untouched mid new → Untouched old new
 untouched_before old mid new first second = record {
-    told = second.told ∙ first.told; each = λ name. second.each name ∙ first.each name; saves = second.saves ∙ first.saves
-  }
+  told = second.told ∙ first.told;
+  each = λ name. second.each name ∙ first.each name;
+  saves = second.saves ∙ first.saves;
+}
 
 pub ends_before : (p : Pair) (old mid new : Files) (screen after : Screen) (ending : Ending) → Untouched old mid → ending ≢ ReadFault → EndsAs p mid new screen after ending → EndsAs p old new screen after ending
 ends_before p old mid new screen after Done same no_fault (halves, done) =
-    (halves, record { read = read_before p old mid halves same done.read; saved = saved_before p.output (output_of halves) old mid new same done.saved; said = done.said })
+    (halves, done_of p halves old new screen after (read_before p old mid halves same done.read) (saved_before p.output (output_of halves) old mid new same done.saved) done.said)
 ends_before p old mid new screen after (Refused spot) same no_fault refused = record {
-    cause = (λ told. let found = refused.cause (told_before old mid same told) in (found.0, sym (same.each p.input) ∙ found.1, found.2));
-    untouched = untouched_before old mid new same refused.untouched;
-    said = refused.said
-  }
+  cause = (λ told. let found = refused.cause (told_before old mid same told) in (found.0, sym (same.each p.input) ∙ found.1, found.2));
+  untouched = untouched_before old mid new same refused.untouched;
+  said = refused.said;
+}
 ends_before p old mid new screen after Usage same no_fault e = absurd e
 ends_before p old mid new screen after ReadFault same no_fault e = absurd (no_fault refl)
-ends_before p old mid new screen after WriteFault same no_fault (halves, unsaved) = (halves, record {
+ends_before p old mid new screen after WriteFault same no_fault (halves, unsaved) = (
+  halves,
+  record {
     read = read_before p old mid halves same unsaved.read;
     cause = subst (λ count. Rose count new.save_faults) same.saves unsaved.cause;
     saved = half_saved_before p.output (output_of halves) old mid new same unsaved.saved;
-    said = unsaved.said
-  })
+    said = unsaved.said;
+  },
+)
 ends_before p old mid new screen after PrintFault same no_fault (halves, unsaid) =
     (halves, record { read = read_before p old mid halves same unsaid.read; saved = saved_before p.output (output_of halves) old mid new same unsaid.saved; cause = unsaid.cause })
 ends_before p old mid new screen after NoMemory same no_fault (inl untouched, said) = (inl (untouched_before old mid new same untouched), said)

@@ -2,11 +2,20 @@
 use Rattle.std.specs.Prelude.{◌≡◌, ℕ, ◌+◌, ◌*◌, ◌-◌, Bool, true, false, List, [], ◌∷◌, length, map, replicate, Option, Some, None, Result, Ok, Err, refl, codes}
 use Rattle.elf_read.specs.FirstForm.{first_object}
 use Rattle.guard_cli.specs.Output.{hardened_object}
-use Rattle.guard_cli.specs.Marks.{bare}
-use Rattle.guard_cli.specs.Instructions.{Move, Mov, Imm, Jump, Outside, Last, Inside, Unknown, PcOperand, Unpredictable, decode}
-use Rattle.guard_cli.specs.States.{State, FaultKind, CodeBytes, read}
-use Rattle.guard_cli.specs.Schedules.{run, is_in}
-use Rattle.guard_cli.specs.Images.{Placement, Image, code_bytes_of, data_bytes_of, code_parts, entries_of, start, entry_of}
+use Rattle.mark_word.specs.Words.{bare}
+use Rattle.thumb_instr.specs.Rows.{decode}
+use Rattle.thumb_instr.specs.declared.instructions.Instr.TheVariants.{Move, Jump}
+use Rattle.thumb_instr.specs.declared.operands.MoveOp.TheVariants.{Mov}
+use Rattle.thumb_instr.specs.declared.operands.Operand.TheVariants.{Imm}
+use Rattle.thumb_instr.specs.declared.refusals.BadInstr.TheVariants.{Unknown, PcOperand, Unpredictable}
+use Rattle.thumb_instr.specs.declared.refusals.ItPlace.TheVariants.{Outside, Last, Inside}
+use Rattle.thumb_table.specs.Parts.{CodeBytes}
+use Rattle.thumb_table.specs.States.{State, read}
+use Rattle.thumb_table.specs.declared.faults.FaultKind.{FaultKind}
+use Rattle.thumb_table.specs.Schedules.{run, is_in}
+use Rattle.thumb_table.specs.Images.{code_bytes_of, data_bytes_of, code_parts, entries_of, start, entry_of}
+use Rattle.thumb_table.specs.Parts.{Image}
+use Rattle.thumb_table.specs.declared.placements.Placement.{Placement}
 
 -- pc and r0 at the end of a run
 abbrev seen : Result State FaultKind → Option (ℕ × ℕ)
@@ -90,13 +99,13 @@ run_off : seen (run plain_code (skipping (0 ∷ 1 ∷ [])) 3 0 begun) ≡ None
 run_off = refl
 
 -- rows of the table
-decode_move : decode Outside 0x2105 0 ≡ Ok (Move Mov true 1 (Imm 5))
+decode_move : decode Outside 0x2105 0 ≡ Ok (Move (record { op = Mov; s = true; d = 1; x = Imm 5 }))
 decode_move = refl
 
-decode_move_in_block : decode Inside 0x2105 0 ≡ Ok (Move Mov false 1 (Imm 5))
+decode_move_in_block : decode Inside 0x2105 0 ≡ Ok (Move (record { op = Mov; s = false; d = 1; x = Imm 5 }))
 decode_move_in_block = refl
 
-decode_return : decode Last 0x4770 0 ≡ Ok (Jump 14)
+decode_return : decode Last 0x4770 0 ≡ Ok (Jump (record { m = 14 }))
 decode_return = refl
 
 decode_jump_to_pc : decode Inside 0x4778 0 ≡ Err PcOperand

@@ -6,10 +6,13 @@ use Rattle.elf_model.specs.declared.objects.Section.{Section}
 use Rattle.elf_model.specs.declared.objects.MapRow.{MapRow}
 use Rattle.elf_model.specs.Maps.{map_section}
 use Rattle.elf_read.specs.FirstForm.{code_bytes, first_object}
-use Rattle.guard_cli.specs.States.{State, FaultKind, at, read}
-use Rattle.guard_cli.specs.Steps.{move}
-use Rattle.guard_cli.specs.Schedules.{run, IsLegal, Returns, OrdinaryRun, is_in, exit}
-use Rattle.guard_cli.specs.Images.{Placement, IsPlacement, Image, IsImage, start}
+use Rattle.thumb_table.specs.States.{State, at, read}
+use Rattle.thumb_table.specs.declared.faults.FaultKind.{FaultKind}
+use Rattle.thumb_table.specs.Steps.{move}
+use Rattle.thumb_table.specs.Schedules.{run, IsLegal, Returns, OrdinaryRun, is_in, exit}
+use Rattle.thumb_table.specs.Images.{IsPlacement, IsImage, start}
+use Rattle.thumb_table.specs.Parts.{Image}
+use Rattle.thumb_table.specs.declared.placements.Placement.{Placement}
 use Rattle.guard_cli.specs.AddressMaps.{SameWord}
 use Rattle.guard_cli.specs.Hardened.{AreArguments, EndsAlike, Hardened}
 use Rattle.guard_cli.proofs.Sequences.{ends_once}

@@ -2,9 +2,10 @@
 use Rattle.std.proofs.Common.{◌≡◌, ℕ, true, false, List, [], ◌∷◌, refl, arith}
 use Rattle.std.proofs.lemmas.List.Elements.{All-nil, All-cons}
 use Rattle.elf_read.specs.FirstForm.{IsMove, IsFirstCode, code_bytes}
-use Rattle.guard_cli.specs.States.{CodeBytes, Core, State, at, read}
-use Rattle.guard_cli.specs.Schedules.{IsLegal, Returns, exit, is_in}
-use Rattle.guard_cli.specs.Images.{start_regs}
+use Rattle.thumb_table.specs.Parts.{CodeBytes}
+use Rattle.thumb_table.specs.States.{Core, State, at, read}
+use Rattle.thumb_table.specs.Schedules.{IsLegal, Returns, exit, is_in}
+use Rattle.thumb_table.specs.Images.{start_regs}
 use Rattle.guard_cli.specs.Output.{doubled}
 use Rattle.guard_cli.proofs.Groups.{legal_of}
 use Rattle.guard_cli.proofs.FirstRuns.{IsReady, after_moves, hard_run}

@@ -4,10 +4,13 @@ use Rattle.std.proofs.lemmas.List.Elements.{All-nil}
 use Rattle.elf_model.specs.declared.objects.MapRow.{MapRow}
 use Rattle.elf_read.specs.FirstForm.{IsFirstCode, code_bytes, first_object}
 use Rattle.guard_cli.specs.Output.{doubled, hardened_object}
-use Rattle.guard_cli.specs.Marks.{Word}
-use Rattle.guard_cli.specs.States.{CodeBytes, Memory, Core, State, at}
-use Rattle.guard_cli.specs.Schedules.{Returns, run, is_in, exit}
-use Rattle.guard_cli.specs.Images.{Placement, Image, IsImage, entry_of, start}
+use Rattle.mark_word.specs.Words.{Word}
+use Rattle.thumb_table.specs.Parts.{CodeBytes, Memory}
+use Rattle.thumb_table.specs.States.{Core, State, at}
+use Rattle.thumb_table.specs.Schedules.{Returns, run, is_in, exit}
+use Rattle.thumb_table.specs.Images.{IsImage, entry_of, start}
+use Rattle.thumb_table.specs.Parts.{Image}
+use Rattle.thumb_table.specs.declared.placements.Placement.{Placement}
 use Rattle.guard_cli.specs.AddressMaps.{TakesEntry, SameState}
 use Rattle.guard_cli.specs.Hardened.{EndsAlike, Rise, Hardened}
 use Rattle.guard_cli.proofs.Groups.{legal_of}

@@ -9,8 +9,12 @@ use Rattle.elf_model.specs.Canonical.{round_up}
 use Rattle.elf_model.specs.Maps.{map_section}
 use Rattle.elf_read.specs.FirstForm.{code_bytes, text_section, code_symbol, function_symbol, first_object}
 use Rattle.guard_cli.specs.Output.{doubled, rows_of, hardened_object}
-use Rattle.guard_cli.specs.Marks.{bare}
-use Rattle.guard_cli.specs.Images.{Placement, IsPlacement, Part, Image, IsImage, is_data, chosen, placed, bytes_from, code_parts, data_parts, code_bytes_of, data_bytes_of, entries_of, NamedEntry, entry_of, even}
+use Rattle.mark_word.specs.Words.{bare}
+use Rattle.thumb_table.specs.Images.{Placed, as_part, IsPlacement, IsImage, is_data, chosen, placed, bytes_from, code_parts, data_parts, code_bytes_of, data_bytes_of, entries_of, entry_of, even}
+use Rattle.thumb_table.specs.Parts.{Image}
+use Rattle.thumb_table.specs.declared.parts.Part.{Part}
+use Rattle.thumb_table.specs.declared.parts.NamedEntry.{NamedEntry}
+use Rattle.thumb_table.specs.declared.placements.Placement.{Placement}
 use Rattle.guard_cli.proofs.Standing.{length-code_bytes, length-doubled}
 
 pub length_doubled_bytes : (halves : List ℕ) → length (code_bytes (doubled halves)) ≡ 4 * length halves
@@ -36,11 +40,14 @@ pub map_idle : (rows : List MapRow) → AreIdle (map_section rows ∷ [])
 map_idle rows = record { no_code = λ j k. refl; no_data = λ j k. refl }
 
 -- the one section of code, where it starts
-abbrev pub text_part : ℕ → List ℕ → Part
-text_part start bytes = record { object = 0; index = 0; ordinal = 0; start = start; section = text_section bytes }
+abbrev pub text_placed : ℕ → List ℕ → Placed
+text_placed start bytes = record { object = 0; index = 0; ordinal = 0; start = start; section = text_section bytes }
 
-abbrev pub text_parts : ℕ → List ℕ → List Part
-text_parts start bytes = text_part start bytes ∷ []
+abbrev pub text_alone : ℕ → List ℕ → List Placed
+text_alone start bytes = text_placed start bytes ∷ []
+
+abbrev pub text_part : ℕ → List ℕ → Part
+text_part start bytes = record { object = 0; code = true; ordinal = 0; start = start; size = length bytes }
 
 base_is_round : (base : ℕ) → base % 4096 ≡ 0 → round_up base 4 ≡ base
 base_is_round base h = omega arith
@@ -53,16 +60,16 @@ pub even_of_entry : (base : ℕ) → base % 4096 ≡ 0 → even (base + 1) ≡ b
 even_of_entry base h = omega arith
 
 module _ (bytes : List ℕ) (more : List Section) (idle : AreIdle more) (at : Placement) (p : IsPlacement at) where
-  lone_code : code_parts (lone_object bytes more ∷ []) at ≡ text_parts at.base bytes
+  lone_code : code_parts (lone_object bytes more ∷ []) at ≡ text_alone at.base bytes
   lone_code =
-      ap (λ (ps : List Part). placed (λ s. max 4 s.align) at.base (text_part 0 bytes ∷ ps ++ [])) (idle.no_code 1 1)
-      ∙ ap (λ (s : ℕ). text_parts s bytes) (base_is_round at.base p.base_even)
+      ap (λ (ps : List Placed). placed (λ s. max 4 s.align) at.base (text_placed 0 bytes ∷ ps ++ [])) (idle.no_code 1 1)
+      ∙ ap (λ (s : ℕ). text_alone s bytes) (base_is_round at.base p.base_even)
 
   lone_data : data_parts (lone_object bytes more ∷ []) at ≡ []
-  lone_data = ap (λ (ps : List Part). placed (λ s. s.align) (at.base + at.room) (ps ++ [])) (idle.no_data 1 0)
+  lone_data = ap (λ (ps : List Placed). placed (λ s. s.align) (at.base + at.room) (ps ++ [])) (idle.no_data 1 0)
 
-  pub lone_parts : code_parts (lone_object bytes more ∷ []) at ++ data_parts (lone_object bytes more ∷ []) at ≡ text_parts at.base bytes
-  lone_parts = ap₂ (λ (a b : List Part). a ++ b) lone_code lone_data
+  pub lone_parts : code_parts (lone_object bytes more ∷ []) at ++ data_parts (lone_object bytes more ∷ []) at ≡ text_alone at.base bytes
+  lone_parts = ap₂ (λ (a b : List Placed). a ++ b) lone_code lone_data
 
   pub lone_code_bytes : code_bytes_of (lone_object bytes more ∷ []) at ≡ bytes
   lone_code_bytes =
@@ -72,13 +79,13 @@ module _ (bytes : List ℕ) (more : List Section) (idle : AreIdle more) (at : Pl
   pub lone_data_bytes : data_bytes_of (lone_object bytes more ∷ []) at ≡ []
   lone_data_bytes = ap (bytes_from (at.base + at.room)) lone_data
 
-  pub lone_entries : entries_of (lone_object bytes more ∷ []) (text_parts at.base bytes) ≡ entry_at at.base ∷ []
+  pub lone_entries : entries_of (lone_object bytes more ∷ []) (text_alone at.base bytes) ≡ entry_at at.base ∷ []
   lone_entries = ap (λ (a : ℕ). entry_at a ∷ []) (even_of_entry at.base p.base_even)
 
 -- what is known of an image of this form, by its code and how far its code may grow
 pub record IsFormed (at : Placement) (bytes : List ℕ) (image : Image) : Type 0 where
   pub placement : IsPlacement at
-  pub parts : image.parts ≡ text_parts at.base bytes
+  pub parts : image.parts ≡ text_part at.base bytes ∷ []
   pub base : image.code.base ≡ at.base
   pub bytes_are : image.code.bytes ≡ bytes
   pub memory : image.memory ≡ record { base = at.base + at.room; cells = [] }
@@ -89,14 +96,14 @@ pub record IsFormed (at : Placement) (bytes : List ℕ) (image : Image) : Type 0
 pub lone_formed : (bytes : List ℕ) (more : List Section) → AreIdle more → (at : Placement) (image : Image) → IsImage (lone_object bytes more ∷ []) at image → IsFormed at bytes image
 lone_formed bytes more idle at image i =
     let p = i.placement in
-    let same_parts = i.parts ∙ lone_parts bytes more idle at p in
+    let same_places = lone_parts bytes more idle at p in
     record {
       placement = p;
-      parts = same_parts;
+      parts = i.parts ∙ ap (map as_part) same_places;
       base = i.code_base;
       bytes_are = i.code_bytes ∙ lone_code_bytes bytes more idle at p;
       memory = i.memory ∙ ap (λ (b : List ℕ). record { base = at.base + at.room; cells = map bare b }) (lone_data_bytes bytes more idle at p);
-      entries = i.entries ∙ ap (entries_of (lone_object bytes more ∷ [])) same_parts ∙ lone_entries bytes more idle at p;
+      entries = i.entries ∙ ap (entries_of (lone_object bytes more ∷ [])) same_places ∙ lone_entries bytes more idle at p;
       fits = subst (λ (b : List ℕ). length b ≤ at.room) (lone_code_bytes bytes more idle at p) i.can.code_fits;
       end_fits = omega (arith, i.can.end_fits);
     }

@@ -11,9 +11,11 @@ use Rattle.elf_model.specs.Canonical.{round_up}
 use Rattle.elf_model.specs.Maps.{map_section}
 use Rattle.elf_read.specs.FirstForm.{IsFirstCode, code_bytes, first_object, code_symbol, function_symbol}
 use Rattle.guard_cli.specs.Output.{doubled, rows_of, hardened_object}
-use Rattle.guard_cli.specs.Marks.{bare}
-use Rattle.guard_cli.specs.Images.{Placement, IsPlacement, Part, Defined, IsDataStart, IsStop, CanLink, Image, IsImage, code_bytes_of, is_function, even, address_of, is_mapping_of}
-use Rattle.guard_cli.proofs.FirstImages.{lone_object, AreIdle, map_idle, text_part, text_parts, lone_parts, lone_code_bytes, lone_data_bytes, lone_entries, entry_at, first_formed, even_of_entry, length_doubled_bytes}
+use Rattle.mark_word.specs.Words.{bare}
+use Rattle.thumb_table.specs.Images.{Placed, as_part, IsPlacement, Defined, IsDataStart, IsStop, CanLink, IsImage, entries_of, code_bytes_of, is_function, even, address_of, is_mapping_of}
+use Rattle.thumb_table.specs.Parts.{Image}
+use Rattle.thumb_table.specs.declared.placements.Placement.{Placement}
+use Rattle.guard_cli.proofs.FirstImages.{lone_object, AreIdle, map_idle, text_placed, text_alone, text_part, lone_parts, lone_code_bytes, lone_data_bytes, lone_entries, entry_at, first_formed, even_of_entry, length_doubled_bytes}
 
 pub only_one : {X : Type 0} (x y : X) → Contains (x ∷ []) y → y ≡ x
 only_one x y (zero, lt, e) = sym e
@@ -51,7 +53,7 @@ lone_image bytes at = record {
   code = record { base = at.base; bytes = bytes; marks = []; stops = stops_of at.base bytes };
   memory = record { base = at.base + at.room; cells = [] };
   room = at.room;
-  parts = text_parts at.base bytes;
+  parts = text_part at.base bytes ∷ [];
   entries = entry_at at.base ∷ [];
 }
 
@@ -62,27 +64,27 @@ module _ (bytes : List ℕ) (more : List Section) where
   is_no_data (suc zero) s e m = true≢false (sym m ∙ ap (is_mapping_of (codes "$d")) (sym (same_Some _ _ e)))
   is_no_data (suc (suc k)) s e m = cc
 
-  no_data_starts : (p : Part) (o : ObjectParts) (x : ℕ) → p.object ≡ 0 → slice_get (lone bytes more) p.object ≡ Some o → IsDataStart o p.index x → ⊥
+  no_data_starts : (p : Placed) (o : ObjectParts) (x : ℕ) → p.object ≡ 0 → slice_get (lone bytes more) p.object ≡ Some o → IsDataStart o p.index x → ⊥
   no_data_starts p o x e found d =
       let first : slice_get (lone bytes more) 0 ≡ Some o = subst (λ k. slice_get (lone bytes more) k ≡ Some o) e found in
       is_no_data d.index d.symbol (subst (λ (v : ObjectParts). slice_get v.symbols d.index ≡ Some d.symbol) (sym (same_Some (lone_object bytes more) o first)) d.is_there) d.is_data
 
-  stop_is_listed : (base : ℕ) → base % 4096 ≡ 0 → (a : ℕ) → IsStop (lone bytes more) (text_parts base bytes) a → Contains (stops_of base bytes) a
+  stop_is_listed : (base : ℕ) → base % 4096 ≡ 0 → (a : ℕ) → IsStop (lone bytes more) (text_alone base bytes) a → Contains (stops_of base bytes) a
   stop_is_listed base h a (IsStop.at_function d there is) =
       elim (one_of_two the_code (the_function bytes) d there) [
-        | inl e ↦ absurd (true≢false (sym is ∙ ap (is_function (text_parts base bytes)) e))
-        | inr e ↦ (0, lit< tt, sym (ap (λ (v : Defined). even (address_of (text_parts base bytes) v)) e ∙ even_of_entry base h))
+        | inl e ↦ absurd (true≢false (sym is ∙ ap (is_function (text_alone base bytes)) e))
+        | inr e ↦ (0, lit< tt, sym (ap (λ (v : Defined). even (address_of (text_alone base bytes) v)) e ∙ even_of_entry base h))
       ]
   stop_is_listed base h a (IsStop.at_data p o x there is found starts) =
-      absurd (no_data_starts p o x (ap (λ (q : Part). q.object) (only_one (text_part base bytes) p there)) found starts)
+      absurd (no_data_starts p o x (ap (λ (q : Placed). q.object) (only_one (text_placed base bytes) p there)) found starts)
   stop_is_listed base h a (IsStop.at_end p there is) =
-      (1, lit< tt, sym (ap (λ (q : Part). q.start + q.section.size) (only_one (text_part base bytes) p there)))
+      (1, lit< tt, sym (ap (λ (q : Placed). q.start + q.section.size) (only_one (text_placed base bytes) p there)))
 
-  listed_is_stop : (base : ℕ) → base % 4096 ≡ 0 → (a : ℕ) → Contains (stops_of base bytes) a → IsStop (lone bytes more) (text_parts base bytes) a
+  listed_is_stop : (base : ℕ) → base % 4096 ≡ 0 → (a : ℕ) → Contains (stops_of base bytes) a → IsStop (lone bytes more) (text_alone base bytes) a
   listed_is_stop base h a (zero, lt, e) =
-      subst (IsStop (lone bytes more) (text_parts base bytes)) (even_of_entry base h ∙ e) (IsStop.at_function (the_function bytes) (1, lit< tt, refl) refl)
+      subst (IsStop (lone bytes more) (text_alone base bytes)) (even_of_entry base h ∙ e) (IsStop.at_function (the_function bytes) (1, lit< tt, refl) refl)
   listed_is_stop base h a (suc zero, lt, e) =
-      subst (IsStop (lone bytes more) (text_parts base bytes)) e (IsStop.at_end (text_part base bytes) (0, lit< tt, refl) refl)
+      subst (IsStop (lone bytes more) (text_alone base bytes)) e (IsStop.at_end (text_placed base bytes) (0, lit< tt, refl) refl)
   listed_is_stop base h a (suc (suc k), lt, e) = absurd (omega arith)
 
   module _ (idle : AreIdle more) (at : Placement) (p : IsPlacement at) (ends : at.base + at.room ≤ 0x7FFFF000) (fits : length bytes ≤ at.room) where
@@ -103,15 +105,19 @@ module _ (bytes : List ℕ) (more : List Section) where
     lone_is_image long = record {
       placement = p;
       can = lone_links;
-      parts = sym (lone_parts bytes more idle at p);
+      parts = ap (map as_part) (sym (lone_parts bytes more idle at p));
       code_base = refl;
       code_bytes = sym (lone_code_bytes bytes more idle at p);
       marks = refl;
-      stops = (λ a. (listed_is_stop at.base p.base_even a, stop_is_listed at.base p.base_even a));
+      stops = (λ a.
+          let places = lone_parts bytes more idle at p in (
+            (λ there. subst (λ (ps : List Placed). IsStop (lone bytes more) ps a) (sym places) (listed_is_stop at.base p.base_even a there)),
+            (λ stop. stop_is_listed at.base p.base_even a (subst (λ (ps : List Placed). IsStop (lone bytes more) ps a) places stop)),
+          ));
       stops_rise = stops_rise at.base bytes long;
       memory = ap (λ (b : List ℕ). record { base = at.base + at.room; cells = map bare b }) (sym (lone_data_bytes bytes more idle at p));
       room = refl;
-      entries = sym (lone_entries bytes more idle at p);
+      entries = sym (ap (entries_of (lone bytes more)) (lone_parts bytes more idle at p) ∙ lone_entries bytes more idle at p);
     }
 
 -- Where an object of the first form has an image, what is made of it has one, unless its code is longer than the room.

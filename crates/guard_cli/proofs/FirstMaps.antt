@@ -9,7 +9,9 @@ use Rattle.elf_model.specs.Objects.{ObjectParts}
 use Rattle.elf_model.specs.Maps.{HasMap}
 use Rattle.elf_read.specs.FirstForm.{IsFirstCode, code_bytes, text_section, first_object}
 use Rattle.guard_cli.specs.Output.{doubled, rows_from, rows_of, hardened_object}
-use Rattle.guard_cli.specs.Images.{Placement, Image, even}
+use Rattle.thumb_table.specs.Images.{even}
+use Rattle.thumb_table.specs.Parts.{Image}
+use Rattle.thumb_table.specs.declared.placements.Placement.{Placement}
 use Rattle.guard_cli.specs.AddressMaps.{TakesEntry}
 use Rattle.guard_cli.specs.Hardened.{IsBefore, Rise, AreMaps, AreShort, code_sections}
 use Rattle.guard_cli.proofs.Standing.{length-code_bytes}

@@ -1,17 +1,24 @@
 -- Runs of code of the first form, plain and doubled.
-use Rattle.std.proofs.Common.{◌≡◌, ◌≢◌, ℕ, ◌+◌, ◌-◌, ◌*◌, ◌/◌, ◌%◌, ◌<◌, ◌≤◌, ◌==◌, ⊎_elim, Bool, true, false, List, [], ◌∷◌, ◌++◌, length, map, Some, Ok, refl, sym, ap, ◌∙◌, subst, arith, get_or-set_same, get_or-set_other, length-set}
+use Rattle.std.proofs.Common.{◌≡◌, ◌≢◌, ℕ, ◌+◌, ◌*◌, ◌/◌, ◌%◌, ◌<◌, ◌≤◌, ◌==◌, ⊎_elim, Bool, true, false, List, [], ◌∷◌, ◌++◌, length, map, Some, Ok, refl, sym, ap, ◌∙◌, subst, arith, get_or-set_same, get_or-set_other, length-set}
 use Rattle.std.specs.Prelude.{slice_set, All}
 use Rattle.std.proofs.lemmas.Bool.{ne_eqb, cases_eq}
 use Rattle.std.proofs.lemmas.List.{set-set, map-append, length-map, length-append}
 use Rattle.std.proofs.lemmas.List.Elements.{All-nil, All-cons, All-head, All-tail, All-weaker, All-push}
 use Rattle.std.proofs.lemmas.Grind.{flat_map-append}
 use Rattle.elf_read.specs.FirstForm.{IsMove, IsFirstCode, return_half, code_bytes}
-use Rattle.guard_cli.specs.Marks.{Word, Plain, Return, plain}
-use Rattle.guard_cli.specs.Formulas.{expand_imm}
-use Rattle.guard_cli.specs.Instructions.{Instr, Move, Mov, Imm, Jump, Outside, decode}
-use Rattle.guard_cli.specs.States.{CodeBytes, Core, State, Change, Site, Jumps, at, read, change, applied, unchanged, jump_to}
-use Rattle.guard_cli.specs.Steps.{Fetched, place_in_block, takes_effect, goes_on, step_of}
-use Rattle.guard_cli.specs.Schedules.{run, exit, Returns}
+use Rattle.mark_word.specs.Words.{Word, plain}
+use Rattle.mark_word.specs.declared.marks.Mark.TheVariants.{Plain, Return}
+use Rattle.mark_word.specs.Formulas.{expand_imm}
+use Rattle.thumb_instr.specs.Rows.{decode}
+use Rattle.thumb_instr.specs.declared.instructions.Instr.{Instr}
+use Rattle.thumb_instr.specs.declared.instructions.Instr.TheVariants.{Move, Jump}
+use Rattle.thumb_instr.specs.declared.operands.MoveOp.TheVariants.{Mov}
+use Rattle.thumb_instr.specs.declared.operands.Operand.TheVariants.{Imm}
+use Rattle.thumb_instr.specs.declared.refusals.ItPlace.TheVariants.{Outside}
+use Rattle.thumb_table.specs.Parts.{CodeBytes}
+use Rattle.thumb_table.specs.States.{Core, State, Change, Site, Jumps, at, read, change, applied, unchanged, jump_to}
+use Rattle.thumb_table.specs.Steps.{Fetched, place_in_block, takes_effect, goes_on, step_of}
+use Rattle.thumb_table.specs.Schedules.{run, exit, Returns}
 use Rattle.guard_cli.specs.Output.{doubled}
 use Rattle.guard_cli.proofs.Groups.{Legal, Leaps, JumpGroup, Comes, it_stays, steps_to, first_step, run_on, comes_on, returns_of, jump_group}
 use Rattle.guard_cli.proofs.Sequences.{Stands, Chain, Settles, stands_split, sequence, ends_once}
@@ -43,7 +50,7 @@ expand_low i c lt =
     let e3 : i % 256 ≡ i = omega arith in
     rw (e1, e2, e3)
 
-decode_move : (h : ℕ) → IsMove h → decode Outside h 0 ≡ Ok (Move Mov true (h / 256 % 8) (Imm (h % 256)))
+decode_move : (h : ℕ) → IsMove h → decode Outside h 0 ≡ Ok (Move (record { op = Mov; s = true; d = h / 256 % 8; x = Imm (h % 256) }))
 decode_move h e =
     let e1 : h / 1 ≡ h = omega arith in
     rw (e, e1)
@@ -51,7 +58,7 @@ decode_move h e =
 abbrev register_set : ℕ → ℕ → Core → Change
 register_set d i x = record unchanged { regs = (d, plain i) ∷ []; n = Some false; z = Some (i == 0); c = Some x.c }
 
-change_move : (d i : ℕ) (site : Site) (x : Core) → d < 8 → i < 256 → change (Move Mov true d (Imm i)) site x ≡ Ok (register_set d i x)
+change_move : (d i : ℕ) (site : Site) (x : Core) → d < 8 → i < 256 → change (Move (record { op = Mov; s = true; d = d; x = Imm i })) site x ≡ Ok (register_set d i x)
 change_move d i site x ld li =
     let e1 : i / 2147483648 ≡ 0 = omega arith in
     let e2 = ne_eqb d 13 (omega arith) in
@@ -74,7 +81,7 @@ pub move_settles : (code : CodeBytes) (h : ℕ) (x : Core) → IsMove h → x.it
 move_settles code h x e it =
     let d = h / 256 % 8 in
     let i = h % 256 in
-    let once = λ (a : ℕ) (y : Core) (c : y.it ≡ 0). does code (narrow h) a y (Move Mov true d (Imm i)) (register_set d i y) c (decode_move h e) (change_move d i (record { code = code; address = a; width = 2 }) y (omega arith) (omega arith)) in
+    let once = λ (a : ℕ) (y : Core) (c : y.it ≡ 0). does code (narrow h) a y (Move (record { op = Mov; s = true; d = d; x = Imm i })) (register_set d i y) c (decode_move h e) (change_move d i (record { code = code; address = a; width = 2 }) y (omega arith) (omega arith)) in
     record {
       makes = λ a. once a x it ∙ ap (λ y. Ok (at (a + 2) (set_register d i y))) (it_stays x it);
       keeps = λ a. once a (after_move h x) it ∙ ap (λ y. Ok (at (a + 2) y)) (ap (λ y. set_register d i y) (it_stays (after_move h x) it) ∙ set_again d i x);
@@ -85,7 +92,7 @@ move_settles code h x e it =
 pub return_leaps : (code : CodeBytes) (a : ℕ) (x : Core) → IsReady x → Leaps code (narrow return_half) a x exit x
 return_leaps code a x r =
     let e : jump_to (read x 14).bits unchanged ≡ Ok (record unchanged { exit = Jumps 0x7FFFFFFE }) = ap (λ (w : Word). jump_to w.bits unchanged) r.lr in
-    does code (narrow return_half) a x (Jump 14) (record unchanged { exit = Jumps 0x7FFFFFFE }) r.clear refl e
+    does code (narrow return_half) a x (Jump (record { m = 14 })) (record unchanged { exit = Jumps 0x7FFFFFFE }) r.clear refl e
     ∙ ap (λ y. Ok (at exit y)) (it_stays x r.clear)
 
 -- what moves keep

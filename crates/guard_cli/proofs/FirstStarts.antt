@@ -4,9 +4,14 @@ use Rattle.std.proofs.lemmas.List.{get_or_append_left, get_or-replicate}
 use Rattle.std.proofs.lemmas.List.Elements.{All-nil, All-append, All-replicate}
 use Rattle.elf_model.specs.declared.objects.MapRow.{MapRow}
 use Rattle.elf_model.specs.Canonical.{round_up}
-use Rattle.guard_cli.specs.Marks.{Mark, Plain, Return, Word, Cell, Piece, plain, bare}
-use Rattle.guard_cli.specs.States.{Memory, State, read}
-use Rattle.guard_cli.specs.Images.{Image, argument, start_regs, run_cells, start}
+use Rattle.mark_word.specs.Words.{Word, Cell, plain, bare}
+use Rattle.mark_word.specs.declared.cells.Piece.{Piece}
+use Rattle.mark_word.specs.declared.marks.Mark.{Mark}
+use Rattle.mark_word.specs.declared.marks.Mark.TheVariants.{Plain, Return}
+use Rattle.thumb_table.specs.Parts.{Memory}
+use Rattle.thumb_table.specs.States.{State, read}
+use Rattle.thumb_table.specs.Images.{argument, start_regs, run_cells, start}
+use Rattle.thumb_table.specs.Parts.{Image}
 use Rattle.guard_cli.specs.AddressMaps.{SameWord, SameBits, SameCell, SameByte, SameState}
 
 pub same_start : (one two : Image) → one.memory ≡ two.memory → (stack entry : ℕ) (args : List ℕ) → start one stack entry args ≡ start two stack entry args

@@ -1,9 +1,11 @@
 -- Copies of an instruction in a row: where one of them is executed, they do what one execution does.
 use Rattle.std.proofs.Common.{◌≡◌, ◌≢◌, ℕ, zero, suc, ◌+◌, ◌<◌, ◌≤◌, ◌⊎◌, inl, inr, ⊎_elim, Bool, true, false, List, Some, Result, Ok, Err, refl, sym, ap, ◌∙◌, arith}
 use Rattle.std.proofs.lemmas.Bool.{cases_eq}
-use Rattle.guard_cli.specs.States.{CodeBytes, Core, State, FaultKind, at, it_after}
-use Rattle.guard_cli.specs.Steps.{Fetched, fetch, step_of, move}
-use Rattle.guard_cli.specs.Schedules.{IsLegal, is_in, go_on, run, exit, Returns}
+use Rattle.thumb_table.specs.Parts.{CodeBytes}
+use Rattle.thumb_table.specs.States.{Core, State, at, it_after}
+use Rattle.thumb_table.specs.declared.faults.FaultKind.{FaultKind}
+use Rattle.thumb_table.specs.Steps.{Fetched, fetch, step_of, move}
+use Rattle.thumb_table.specs.Schedules.{IsLegal, is_in, go_on, run, exit, Returns}
 
 -- of c steps in a row one is executed
 abbrev pub Legal : ℕ → (ℕ → Bool) → Type 0

@@ -1,20 +1,19 @@
 -- A file of the first form is short, and begins as the format wants it.
-use Rattle.std.proofs.Common.{◌≡◌, ℕ, ◌+◌, ◌-◌, ◌*◌, ◌/◌, ◌≤◌, List, [], ◌∷◌, ◌++◌, length, replicate, take, refl, sym, ap, ◌∙◌, arith}
+use Rattle.std.proofs.Common.{◌≡◌, ℕ, ◌+◌, ◌-◌, ◌*◌, ◌≤◌, List, [], ◌∷◌, ◌++◌, length, replicate, refl, arith}
 use Rattle.std.proofs.lemmas.List.{length-append, length-replicate}
-use Rattle.std.specs.List.{flat_map}
 use Rattle.elf_model.specs.Objects.{ObjectParts}
-use Rattle.elf_model.specs.Canonical.{canonical, file_header, laid, laid_end, file_sections, section_names, header_rows, table_place, round_up, shstrtab_header}
+use Rattle.elf_model.specs.Canonical.{canonical, file_header, laid, laid_end, file_sections, section_names, header_rows, table_place}
 use Rattle.elf_read.specs.FirstForm.{IsFirstCode, IsElf, first_object, code_bytes, text_section, code_symbol, function_symbol}
 use Rattle.guard_cli.specs.Runs.{file_limit}
 use Rattle.guard_cli.proofs.Written.{length-code_bytes}
 
 abbrev plain : List ℕ → ObjectParts
 plain code = record {
-    sections = text_section code ∷ [];
-    symbols = code_symbol ∷ function_symbol (length code) ∷ [];
-    relocs = [];
-    flags = 0x05000000
-  }
+  sections = text_section code ∷ [];
+  symbols = code_symbol ∷ function_symbol (length code) ∷ [];
+  relocs = [];
+  flags = 0x05000000;
+}
 
 -- where the headers stand
 table_bound : (code : List ℕ) → table_place (plain code) ≤ length code + 145
@@ -38,7 +37,7 @@ length-canonical code =
     let table = table_place o in
     let end = laid_end 52 files in
     five_parts (file_header table 5 4 0x05000000) (laid 52 files) (replicate (table - end) 0) (replicate 40 0) (header_rows (section_names o) 52 files)
-        (length code) table (table - end) refl (length-laid code) (length-replicate (table - end) 0) (padding_bound table end) (table_bound code) refl refl
+    (length code) table (table - end) refl (length-laid code) (length-replicate (table - end) 0) (padding_bound table end) (table_bound code) refl refl
 
 pub first_is_short : (halves : List ℕ) → IsFirstCode halves → length (canonical (first_object halves)) ≤ file_limit
 first_is_short halves first =

@@ -1,5 +1,5 @@
 -- Words that are names by pairs.
-use Rattle.std.proofs.Common.{◌≡◌, ◌≢◌, ◌/◌, ◌%◌, ℕ, zero, suc, ◌+◌, ◌*◌, ◌<◌, ◌≤◌, List, [], ◌∷◌, length, map, get_or, refl, sym, ap, ◌∙◌, subst, arith}
+use Rattle.std.proofs.Common.{◌≡◌, ◌/◌, ◌%◌, ℕ, zero, suc, ◌*◌, ◌<◌, ◌≤◌, List, [], ◌∷◌, length, map, get_or, refl, sym, ap, ◌∙◌, subst, arith}
 use Rattle.std.specs.Prelude.{All, codes}
 use Rattle.std.specs.List.{flat_map}
 use Rattle.std.proofs.lemmas.List.{length-map, get_or-map}
@@ -42,13 +42,15 @@ pairs_of (suc n) (x ∷ y ∷ xs) e a =
     let tail = all_tail IsFileName x (y ∷ xs) a in
     let rest = pairs_of n xs (omega arith) (all_tail IsFileName y xs tail) in
     let p : Pair = record { input = x; output = y } in
-    let h = rest.1 in
-    (p ∷ rest.0, record {
+    let h = rest.1 in (
+      p ∷ rest.0,
+      record {
         names_are = ap (λ l. x ∷ y ∷ l) h.names_are;
         count = (let c = h.count in omega arith);
         inputs = all_cons HasInput p rest.0 (all_head IsFileName x (y ∷ xs) a) h.inputs;
-        outputs = all_cons HasOutput p rest.0 (all_head IsFileName y xs tail) h.outputs
-      })
+        outputs = all_cons HasOutput p rest.0 (all_head IsFileName y xs tail) h.outputs;
+      },
+    )
 
 pub names_of_pairs : (pairs : List Pair) → All (λ (p : Pair). IsFileName p.input) pairs → All (λ (p : Pair). IsFileName p.output) pairs → (length (flat_map names_of pairs) ≡ 2 * length pairs) × All IsFileName (flat_map names_of pairs)
 names_of_pairs [] i o = (refl, all_none IsFileName)

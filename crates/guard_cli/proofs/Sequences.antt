@@ -1,8 +1,10 @@
 -- Sequences of groups, and the one end of a run.
 use Rattle.std.proofs.Common.{◌≡◌, ℕ, zero, suc, ◌+◌, ◌*◌, Bool, true, false, List, [], ◌∷◌, ◌++◌, length, Some, None, Ok, Err, refl, ap, ◌∙◌, subst, arith}
-use Rattle.guard_cli.specs.States.{CodeBytes, Core, State, BadFetch, at}
-use Rattle.guard_cli.specs.Steps.{Fetched, fetch, move}
-use Rattle.guard_cli.specs.Schedules.{go_on, run, exit}
+use Rattle.thumb_table.specs.Parts.{CodeBytes}
+use Rattle.thumb_table.specs.States.{Core, State, at}
+use Rattle.thumb_table.specs.declared.faults.FaultKind.TheVariants.{BadFetch}
+use Rattle.thumb_table.specs.Steps.{Fetched, fetch, move}
+use Rattle.thumb_table.specs.Schedules.{go_on, run, exit}
 use Rattle.guard_cli.proofs.Groups.{Legal, Makes, Group, go_on_ok, run_on, group}
 
 -- the instructions stand in the code from p to q

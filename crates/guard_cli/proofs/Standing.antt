@@ -9,9 +9,9 @@ use Rattle.byteorder.specs.Endian.{little_number}
 use Rattle.byteorder.specs.Numbers.{little_number-reads_back, length-bytes_low_first}
 use Rattle.elf_model.specs.Fields.{half}
 use Rattle.elf_read.specs.FirstForm.{code_bytes}
-use Rattle.guard_cli.specs.Instructions.{is_wide}
-use Rattle.guard_cli.specs.States.{CodeBytes}
-use Rattle.guard_cli.specs.Steps.{Fetched, fetch, half_of}
+use Rattle.thumb_instr.specs.Rows.{is_wide}
+use Rattle.thumb_table.specs.Parts.{CodeBytes}
+use Rattle.thumb_table.specs.Steps.{Fetched, fetch, half_of}
 use Rattle.guard_cli.specs.Output.{doubled}
 use Rattle.guard_cli.proofs.Sequences.{Stands, copied}
 

@@ -1,5 +1,5 @@
 -- The canonical file of a hardened object is the file that is written.
-use Rattle.std.proofs.Common.{◌≡◌, ℕ, zero, suc, ◌+◌, ◌-◌, ◌*◌, ◌/◌, ◌≤◌, List, [], ◌∷◌, ◌++◌, length, replicate, take, drop, refl, sym, ap, ◌∙◌, add-one, arith}
+use Rattle.std.proofs.Common.{◌≡◌, ℕ, zero, suc, ◌+◌, ◌-◌, ◌*◌, ◌/◌, List, [], ◌∷◌, ◌++◌, length, replicate, take, drop, refl, sym, ap, ◌∙◌, add-one, arith}
 use Rattle.std.specs.List.{flat_map}
 use Rattle.std.proofs.lemmas.List.{append_assoc, append-nil}
 use Rattle.elf_model.specs.declared.objects.MapRow.{MapRow}
@@ -15,13 +15,13 @@ use Rattle.guard_cli.specs.Runs.{report_of}
 use Rattle.guard_cli.specs.Outcomes.{tally_with}
 use Rattle.guard_cli.specs.HardenedFile.{symbols_at, head, symbol_words, names, header_words, tables, doubled_bytes}
 
-abbrev object_with : List ℕ → List MapRow → ObjectParts
+abbrev pub object_with : List ℕ → List MapRow → ObjectParts
 object_with code rows = record {
-    sections = text_section code ∷ map_section rows ∷ [];
-    symbols = code_symbol ∷ function_symbol (length code) ∷ [];
-    relocs = [];
-    flags = 0x05000000
-  }
+  sections = text_section code ∷ map_section rows ∷ [];
+  symbols = code_symbol ∷ function_symbol (length code) ∷ [];
+  relocs = [];
+  flags = 0x05000000;
+}
 
 round_up-one : (at : ℕ) → round_up at 1 ≡ at
 round_up-one at = omega arith
@@ -62,11 +62,11 @@ canonical-with n code rows c r b =
 length-half : (h : ℕ) → length (half h) ≡ 2
 length-half h = refl
 
-length-rows_from : (i n : ℕ) → length (rows_from i n) ≡ n
+pub length-rows_from : (i n : ℕ) → length (rows_from i n) ≡ n
 length-rows_from i zero = refl
 length-rows_from i (suc n) = ap (λ k. suc k) (length-rows_from (i + 1) n)
 
-length-row_bytes : (rows : List MapRow) → length (flat_map row_bytes rows) ≡ 16 * length rows
+pub length-row_bytes : (rows : List MapRow) → length (flat_map row_bytes rows) ≡ 16 * length rows
 length-row_bytes [] = refl
 length-row_bytes (r ∷ rows) = let h = length-row_bytes rows in omega arith
 
@@ -74,7 +74,7 @@ pub length-code_bytes : (halves : List ℕ) → length (code_bytes halves) ≡ 2
 length-code_bytes [] = refl
 length-code_bytes (h ∷ halves) = let e = length-code_bytes halves in omega arith
 
-length-doubled : (halves : List ℕ) → length (doubled halves) ≡ 2 * length halves
+pub length-doubled : (halves : List ℕ) → length (doubled halves) ≡ 2 * length halves
 length-doubled [] = refl
 length-doubled (h ∷ halves) = let e = length-doubled halves in omega arith
 
@@ -120,7 +120,7 @@ written halves code n a b c d e f code_is n_is none h1 h2 h3 h4 h5 =
     let twice : doubled_bytes code ≡ code_bytes (doubled halves) = ap doubled_bytes code_is ∙ doubled_bytes_are halves in
     let h = h2 ∙ ap (λ x. b ++ x) twice in
     joined head (λ m. flat_map row_bytes (rows_from 0 m)) tables (λ m. flat_map word (header_words m)) (code_bytes (doubled halves)) n (length halves) a b c d e f
-        same none h1 h h3 h4 h5
+    same none h1 h h3 h4 h5
     ∙ sym (canonical-hardened halves)
 
 -- what is counted of n instructions

@@ -3,17 +3,21 @@ use Rattle.std.specs.Prelude.{◌≡◌, ◌<◌, ◌≤◌, ◌⊎◌, ℕ, ◌
 use Rattle.elf_model.specs.declared.objects.MapRow.{MapRow}
 use Rattle.elf_model.specs.declared.objects.RowKind.{RowKind}
 use Rattle.elf_model.specs.declared.objects.RowKind.TheVariants as row
-use Rattle.elf_model.specs.Objects.{is_code}
-use Rattle.guard_cli.specs.Marks.{Mark, Plain, Entry, Return, Low, Word, Piece, Cell, byte_of, bare}
-use Rattle.guard_cli.specs.States.{Core, State, read}
-use Rattle.guard_cli.specs.Images.{Image, Part, even}
+use Rattle.mark_word.specs.Words.{Word, Cell, byte_of, bare}
+use Rattle.mark_word.specs.declared.cells.Piece.{Piece}
+use Rattle.mark_word.specs.declared.marks.Mark.{Mark}
+use Rattle.mark_word.specs.declared.marks.Mark.TheVariants.{Plain, Entry, Return, Low}
+use Rattle.thumb_table.specs.States.{Core, State, read}
+use Rattle.thumb_table.specs.Images.{even}
+use Rattle.thumb_table.specs.Parts.{Image}
+use Rattle.thumb_table.specs.declared.parts.Part.{Part}
 
 -- a code section that holds an address
 pub record Holds (image : Image) (p : Part) (a : ℕ) : Type 0 where
   pub there : Contains image.parts p
-  pub code : is_code p.section ≡ true
+  pub code : p.code ≡ true
   pub from : p.start ≤ a
-  pub below : a < p.start + p.section.size
+  pub below : a < p.start + p.size
 
 -- A row of this kind takes an address to another one. The place is in a plain code section, the row is of
 -- its object and section, and what it gives is in the same section of the hardened object. Bit 0 stays.
@@ -29,7 +33,7 @@ pub record Leads (plain hard : Image) (maps : List (List MapRow)) (kind : RowKin
   pub of_place : old_part.start + row.old ≡ even a
   pub new_part : Part
   pub there : Contains hard.parts new_part
-  pub code : is_code new_part.section ≡ true
+  pub code : new_part.code ≡ true
   pub of_object : new_part.object ≡ old_part.object
   pub of_ordinal : new_part.ordinal ≡ old_part.ordinal
   pub gives : b ≡ (new_part.start + row.new) % 2 ^ 32 + a % 2

@@ -1,12 +1,14 @@
 -- What hardening promises: skips do no harm.
-use Rattle.std.specs.Prelude.{◌≡◌, ◌<◌, ◌≤◌, ◌⊎◌, ℕ, ◌+◌, ◌*◌, ◌^◌, ◌==◌, ◌||◌, nat_lt, false, List, [], ◌∷◌, length, Option, Some, None, All, slice_get, filter}
+use Rattle.std.specs.Prelude.{◌≡◌, ◌<◌, ◌≤◌, ◌⊎◌, ℕ, ◌*◌, ◌^◌, false, List, [], ◌∷◌, length, Some, All, slice_get, filter}
 use Rattle.elf_model.specs.declared.objects.Section.{Section}
 use Rattle.elf_model.specs.declared.objects.MapRow.{MapRow}
 use Rattle.elf_model.specs.Objects.{ObjectParts, is_code}
 use Rattle.elf_model.specs.Maps.{HasMap, row_kind}
-use Rattle.guard_cli.specs.States.{State}
-use Rattle.guard_cli.specs.Schedules.{IsLegal, Returns, OrdinaryRun, is_in}
-use Rattle.guard_cli.specs.Images.{Placement, Image, IsImage, code_bytes_of, entry_of, start}
+use Rattle.thumb_table.specs.States.{State}
+use Rattle.thumb_table.specs.Schedules.{IsLegal, Returns, OrdinaryRun, is_in}
+use Rattle.thumb_table.specs.Images.{IsImage, code_bytes_of, entry_of, start}
+use Rattle.thumb_table.specs.Parts.{Image}
+use Rattle.thumb_table.specs.declared.placements.Placement.{Placement}
 use Rattle.guard_cli.specs.AddressMaps.{TakesEntry, SameState}
 
 -- the rows rise strictly by section, old offset and kind

@@ -6,13 +6,6 @@ pub mod Commands
 pub mod Statuses
 pub mod HardenedFile
 pub mod Outcomes
-pub mod Marks
-pub mod Formulas
-pub mod Instructions
-pub mod States
-pub mod Steps
-pub mod Schedules
-pub mod Images
 pub mod AddressMaps
 pub mod Hardened
 pub mod Promise

@@ -13,9 +13,15 @@ use Rattle.guard_cli.specs.Runs.{Screen, IsPut, IsCutOff, IsToldOf, IsInputRefus
 -- the counts of an output of this name
 abbrev pub tally_with : List ℕ → Counts → Tally
 tally_with output n = record {
-    output = output; functions = n.functions; before = n.before; after = n.after; old_bytes = n.old_bytes; new_bytes = n.new_bytes;
-    dropped = n.dropped; factor = n.factor
-  }
+  output = output;
+  functions = n.functions;
+  before = n.before;
+  after = n.after;
+  old_bytes = n.old_bytes;
+  new_bytes = n.new_bytes;
+  dropped = n.dropped;
+  factor = n.factor;
+}
 
 -- what is made of an input of the first form: the output's file, and the report that names it
 pub record IsDecided (output bytes file report : List ℕ) (halves : List ℕ) : Type 0 where

@@ -1,5 +1,5 @@
 -- What is promised of the pairs of a command that ended well.
-use Rattle.std.specs.Prelude.{◌≡◌, ◌<◌, ◌≢◌, ℕ, List, [], ◌∷◌, length, map, Option, Some, All, slice_get}
+use Rattle.std.specs.Prelude.{◌≡◌, ◌≢◌, ℕ, List, [], ◌∷◌, map, Option, Some, slice_get}
 use Rattle.std.specs.List.{AllPairs}
 use Rattle.elf_model.specs.Objects.{ObjectParts}
 use Rattle.elf_model.specs.Files.{StandsFor}

@@ -1,15 +1,16 @@
 -- What comes of a command: each ending, with its cause and with what it leaves.
-use Rattle.std.specs.Prelude.{◌≡◌, ◌≢◌, ◌<◌, ◌≤◌, ◌⊎◌, ℕ, ◌*◌, Bool, List, [], ◌∷◌, ◌++◌, length, Option, Some, None, IsTrue, IsSome}
+use Rattle.std.specs.Prelude.{◌≡◌, ◌≢◌, ◌<◌, ◌≤◌, ◌⊎◌, ℕ, ◌*◌, Bool, List, [], ◌∷◌, ◌++◌, length, Option, Some, None, IsTrue}
 use Rattle.guard_io.specs.Outside.{Rose, IsPartlySaved, IsPartlyPut}
 use Rattle.elf_model.specs.declared.refusals.Refusal.TheVariants.{TooLong, NotYet}
 use Rattle.elf_model.specs.declared.refusals.Spot.{Spot}
 use Rattle.elf_model.specs.Canonical.{canonical}
-use Rattle.elf_read.specs.FirstForm.{IsFirstCode, IsRefusalOf, first_object, code_bytes, at_start}
+use Rattle.elf_read.specs.FirstForm.{IsFirstCode, IsRefusalOf, first_object, at_start}
 use Rattle.guard_cli.specs.declared.endings.Ending.{Ending}
 use Rattle.guard_cli.specs.declared.endings.Ending.TheVariants.{Done, Refused, Usage, ReadFault, WriteFault, PrintFault, NoMemory}
-use Rattle.guard_cli.specs.Words.{Pair, IsHarden, IsCommand}
-use Rattle.guard_cli.specs.Output.{doubled, hardened_object}
-use Rattle.guard_cli.specs.Texts.{Tally, report, usage_line, no_memory_line, read_fault_line, write_fault_line, refused_line}
+use Rattle.guard_cli.specs.Words.{Pair}
+use Rattle.guard_cli.specs.Output.{hardened_object}
+use Rattle.guard_cli.specs.Promise.{IsPick, AreHardened}
+use Rattle.guard_cli.specs.Texts.{Tally, greatest_factor, report, usage_line, no_memory_line, read_fault_line, write_fault_line, refused_line}
 
 -- what is known of the files at a moment, and of the output
 pub record Files : Type 0 where
@@ -103,6 +104,9 @@ pub record IsDone (p : Pair) (old new : Files) (screen after : Screen) (halves :
   pub read : IsRead p old halves
   pub saved : IsSaved p.output (output_of halves) old new
   pub said : IsPut (report_of p halves) screen after
+  -- Skips do no harm to what was saved, with the factor that the report ends with.
+  pub hardened : IsTrue old.told → (picked : List Pair) → IsPick (p ∷ []) picked →
+      AreHardened picked old.content new.content (greatest_factor (tally_of p halves ∷ []))
 
 -- The input was refused, and nothing was touched.
 pub record IsRefusedFor (p : Pair) (old new : Files) (screen after : Screen) (spot : Spot) : Type 0 where

@@ -47,8 +47,14 @@ fn make(alloc: Global, output: &str, object: &Object) -> Result<Decided, AllocEr
 fn counts_of(instructions: u32) -> Counts
     requires { instructions ≤ 32768 }
     ensures { result ≡ record {
-        functions = 1; before = instructions; after = 2 * instructions; old_bytes = 2 * instructions; new_bytes = 4 * instructions;
-        dropped = 0; factor = 2 } }
+      functions = 1;
+      before = instructions;
+      after = 2 * instructions;
+      old_bytes = 2 * instructions;
+      new_bytes = 4 * instructions;
+      dropped = 0;
+      factor = 2;
+    } }
 {
     Counts {
         functions: 1,

@@ -5,6 +5,8 @@ mod commands;
 mod decisions;
 mod endings;
 mod form;
+#[cfg(test)]
+mod tests;
 mod texts;
 mod words;
 
@@ -13,13 +15,12 @@ ghost use Rattle.elf_read.specs.FirstForm.{HasFirstForm};
 ghost use Rattle.guard_cli.specs.Words.{Pair, IsHarden, IsCommand};
 ghost use Rattle.guard_cli.specs.Runs.{files_seen, screen_seen, EndsAs, IsMisused, IsRefusedAtOnce, CountsGrow, CountsStay, IsCalm, IsDoneOrNoMemory};
 
-pub use endings::Ending;
-
 use crate::commands::{harden_pair, tell, tell_made};
 use crate::decisions::at_start;
 use crate::texts::{refused_text, usage_text};
 use crate::words::{Command, command_of};
 use elf_model::Refusal;
+pub use endings::Ending;
 use guard_io::{Shelf, Sink};
 use std::alloc::Global;
 

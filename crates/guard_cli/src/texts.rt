@@ -109,5 +109,7 @@ fn tally_text(alloc: Global, output: &str, counts: &Counts) -> Result<String, Al
     let new_bytes = counts.new_bytes;
     let dropped = counts.dropped;
     let factor = counts.factor;
-    format!(in alloc; "{output}: {functions} functions, {before} -> {after} instructions, {old_bytes} -> {new_bytes} bytes, {dropped} dropped, factor {factor}\n")
+    format!(in alloc;
+        "{output}: {functions} functions, {before} -> {after} instructions, {old_bytes} -> {new_bytes} bytes, {dropped} dropped, factor {factor}\n"
+    )
 }

@@ -1,15 +1,12 @@
 //! The program: real files, the standard output, and the words that it was called with.
 #![tactic(auto)]
 
-use std::alloc::AllocError;
-use std::env;
-use std::io;
+use guard_cli::guard_main;
+use guard_io::{HostShelf, HostSink};
 use std::io::ErrorKind;
 use std::process::ExitCode;
 use std::rt::Runtime;
-
-use guard_cli::guard_main;
-use guard_io::{HostShelf, HostSink};
+use std::{env, io};
 
 /// The status where the system does not give the words.
 const NO_WORDS: u8 = 7;
@@ -34,7 +31,7 @@ fn main(rt: HostRuntime) -> ExitCode {
         Err(_) => return ExitCode::from(NO_WORDS),
     };
     let mut shelf = HostShelf::new(&rt);
-    let mut out = HostSink::new(io::writer(&rt));
+    let mut out = HostSink::new(rt.stdout());
     let ending = guard_main(rt.alloc(), &words, &mut shelf, &mut out);
     ExitCode::from(ending.status())
 }

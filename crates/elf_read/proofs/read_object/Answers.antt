@@ -1,7 +1,6 @@
 use Rattle.std.proofs.Common.{◌≡◌, not, sym, ap, ◌∙◌, Bool, true, false, refl, rules}
 use Rattle.std.proofs.lemmas.Bool.{false≢true}
 use Rattle.std.proofs.lemmas.Slice.Eq.{bytes_eq-Decides}
-use Rattle.std.specs.Str.{bytes_eq}
 use Rattle.elf_model.specs.Canonical.{canonical}
 use Rattle.elf_read.specs.FirstFile.{first_file}
 use Rattle.elf_read.proofs.Frame.{canonical-first}

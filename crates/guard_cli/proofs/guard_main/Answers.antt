@@ -1,4 +1,4 @@
-use Rattle.std.proofs.Common.{List, [], ◌∷◌, ap, map, string_bytes, subst}
+use Rattle.std.proofs.Common.{[], ◌∷◌, map, string_bytes, subst}
 use Rattle.guard_cli.specs.Words.{Pair}
 use Rattle.guard_cli.specs.Runs.{files_seen, screen_seen, EndsAs}
 use Rattle.guard_cli.proofs.Pairs.{same_harden, only_pair}
@@ -13,4 +13,4 @@ returns-in-One-clause-complete g c = λ p file words_are told there form calm.
     let same = only_pair (same_harden (map string_bytes c.args.words.now) (own ∷ []) (p ∷ []) c.in-One.ensures words_are) in
     let ends = subst (λ q. EndsAs q (files c.args.shelf.now) (files c.harden_pair.new.shelf) (screen c.args.out.now) (screen c.harden_pair.new.out) c.harden_pair.result) same c.harden_pair.ensures.one in
     calm_is_done p (files c.args.shelf.now) (files c.harden_pair.new.shelf) (screen c.args.out.now) (screen c.harden_pair.new.out) c.harden_pair.result file
-        ends told there form calm
+    ends told there form calm

@@ -1,4 +1,4 @@
-use Rattle.std.proofs.Common.{◌≡◌, ◌&&◌, ◌+◌, ◌≤◌, ◌/◌, ap, sym, ◌∙◌, drop, get_or, length, arith}
+use Rattle.std.proofs.Common.{◌&&◌, ◌+◌, ◌≤◌, ◌/◌, ap, sym, ◌∙◌, drop, get_or, length, arith}
 use Rattle.std.proofs.lemmas.Bool.{ne_eqb, eq-eqb}
 use Rattle.elf_read.specs.FirstFile.{are_moves}
 use Rattle.elf_read.proofs.Moves.{moves_more, moves_odd}

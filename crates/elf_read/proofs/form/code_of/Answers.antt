@@ -1,4 +1,4 @@
-use Rattle.std.proofs.Common.{◌≡◌, ◌-◌, ◌+◌, true, false, ap, sym, ◌∙◌, take, drop, arith}
+use Rattle.std.proofs.Common.{ap, sym, ◌∙◌, drop, arith}
 use Rattle.std.proofs.lemmas.Bool.{false≢true}
 use Rattle.elf_read.specs.FirstFile.{is_first_code}
 use Rattle.elf_read.proofs.Frame.{code_found}

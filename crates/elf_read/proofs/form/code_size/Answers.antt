@@ -1,4 +1,4 @@
-use Rattle.std.proofs.Common.{◌≡◌, ◌-◌, ◌<◌, ◌≤◌, ◌^◌, ap, ◌∙◌, drop, length, arith}
+use Rattle.std.proofs.Common.{◌-◌, ◌<◌, ◌≤◌, ◌^◌, ap, ◌∙◌, drop, length, arith}
 use Rattle.byteorder.specs.Endian.{little_number}
 use Rattle.elf_read.proofs.Frame.{size-first, up_to_end}
 use Rattle.elf_read.proofs.Moves.{first_short}

@@ -29,7 +29,7 @@ overflow_add-offset c =
     let b = c.args.bytes.now in
     let h = c.loop-h.h in
     let at : Some c.in-Some-header_fault.field ≡ first_of (tests_of b h) =
-        same_tests b h c.loop-h.seen (fields_of c.header_at-f.result) _ (sym c.in-Some-header_fault.is ∙ c.header_fault.ensures) c.loop-h.invariant.seen c.header_at-f.ensures in
+    same_tests b h c.loop-h.seen (fields_of c.header_at-f.result) _ (sym c.in-Some-header_fault.is ∙ c.header_fault.ensures) c.loop-h.invariant.seen c.header_at-f.ensures in
     let field = small_field b h c.in-Some-header_fault.field at in
     let inside : word_at b 32 + 40 * header_count b ≤ length b = c.loop-h.invariant.listed.inside in
     let place : c.place.result ≡ word_at b 32 + 40 * h = c.place.ensures in
@@ -41,7 +41,7 @@ returns-in-Some-header_fault c = λ l.
     let h = c.loop-h.h in
     let d = c.in-Some-header_fault.field in
     let at : Some d ≡ first_of (tests_of b h) =
-        same_tests b h c.loop-h.seen (fields_of c.header_at-f.result) _ (sym c.in-Some-header_fault.is ∙ c.header_fault.ensures) c.loop-h.invariant.seen c.header_at-f.ensures in
+    same_tests b h c.loop-h.seen (fields_of c.header_at-f.result) _ (sym c.in-Some-header_fault.is ∙ c.header_fault.ensures) c.loop-h.invariant.seen c.header_at-f.ensures in
     let here : IsHeader b h = record { behind_null = omega arith; there = omega arith } in
     rw c.place.ensures (first_in_header b l h d here c.loop-h.invariant.none at)
 
@@ -51,7 +51,7 @@ loop-h-preserved c =
     let h = c.loop-h.h in
     let kind = c.header_at-f.result.kind in
     let at : None ≡ first_of (tests_of b h) =
-        same_tests b h c.loop-h.seen (fields_of c.header_at-f.result) _ (sym c.in_default-header_fault.is ∙ c.header_fault.ensures) c.loop-h.invariant.seen c.header_at-f.ensures in
+    same_tests b h c.loop-h.seen (fields_of c.header_at-f.result) _ (sym c.in_default-header_fault.is ∙ c.header_fault.ensures) c.loop-h.invariant.seen c.header_at-f.ensures in
     let here : IsHeader b h = record { behind_null = omega arith; there = omega arith } in
     let same : kind ≡ (header b h).kind = ap (λ x. x.kind) c.header_at-f.ensures in
     let step = seen_step b h kind c.loop-h.seen here same c.loop-h.invariant.seen in

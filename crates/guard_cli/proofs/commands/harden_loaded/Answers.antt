@@ -1,5 +1,5 @@
 use Rattle.std.proofs.Common.{refl, subst, arith}
-use Rattle.guard_cli.specs.Runs.{files_seen, screen_seen}
+use Rattle.guard_cli.specs.Runs.{files_seen}
 use Rattle.guard_cli.specs.Texts.{refused_line}
 use Rattle.guard_cli.specs.Words.{Pair}
 use Rattle.guard_cli.specs.Outcomes.{IsTurnedDown}
@@ -21,7 +21,7 @@ returns-in-Err-Refused-clause-one g c =
     let p : Pair = record { input = c.args.input.now; output = c.args.output.now } in
     record {
       cause = λ told. refused_whole (g.S.Shelf.file c.args.shelf.now c.args.input.now) 1048577 c.args.bytes.now c.in-Err-Refused.spot (c.requires told) (omega arith)
-        (subst (λ d. IsTurnedDown c.args.bytes.now d) c.in-Err-Refused.field-0-is c.in-Err-Refused.ensures.refused);
+          (subst (λ d. IsTurnedDown c.args.bytes.now d) c.in-Err-Refused.field-0-is c.in-Err-Refused.ensures.refused);
       untouched = record { told = refl; each = λ name. refl; saves = refl };
-      said = c.tell_made.ensures.told (refused_line c.args.input.now c.in-Err-Refused.spot) c.refused_text.ensures
+      said = c.tell_made.ensures.told (refused_line c.args.input.now c.in-Err-Refused.spot) c.refused_text.ensures;
     }

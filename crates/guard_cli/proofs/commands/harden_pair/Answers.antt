@@ -1,5 +1,4 @@
 use Rattle.guard_cli.specs.Runs.{files_seen, screen_seen}
-use Rattle.guard_cli.specs.Words.{Pair}
 use Rattle.guard_cli.proofs.Carried.{ends_before}
 use Rattle.guard_cli.proofs.commands.harden_pair.Goals as goal
 
@@ -9,5 +8,5 @@ returns-in-Ok-clause-one g c =
     let screen = screen_seen g.K.Sink.tells g.K.Sink.written g.K.Sink.steady g.K.Sink.faults in
     let same = c.load.ensures.files in
     ends_before (record { input = c.args.input.now; output = c.args.output.now }) (files c.args.shelf.now) (files c.load.new.self) (files c.harden_loaded.new.shelf)
-        (screen c.args.out.now) (screen c.harden_loaded.new.out) c.harden_loaded.result
-        (record { told = same.told; each = same.each; saves = c.load.ensures.saves }) c.harden_loaded.ensures.was_read c.harden_loaded.ensures.one
+    (screen c.args.out.now) (screen c.harden_loaded.new.out) c.harden_loaded.result
+    (record { told = same.told; each = same.each; saves = c.load.ensures.saves }) c.harden_loaded.ensures.was_read c.harden_loaded.ensures.one

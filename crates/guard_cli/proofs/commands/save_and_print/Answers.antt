@@ -1,5 +1,5 @@
-use Rattle.std.proofs.Common.{List, ℕ, Err, subst, sym, ap, ◌∙◌}
-use Rattle.guard_cli.specs.Runs.{Files, Screen, files_seen, screen_seen, IsSaved, IsHalfSaved, IsToldOf, report_of}
+use Rattle.std.proofs.Common.{Err, subst, sym, ap, ◌∙◌}
+use Rattle.guard_cli.specs.Runs.{files_seen, screen_seen, IsSaved, IsHalfSaved, IsToldOf}
 use Rattle.guard_cli.specs.Texts.{write_fault_line}
 use Rattle.guard_cli.specs.Outcomes.{ReportEndsAs}
 use Rattle.guard_cli.proofs.Carried.{ends_saved, saved_as, half_saved_as, report_as}
@@ -16,7 +16,7 @@ returns-in-Ok-clause-one g c = λ p halves name_is read file_is report_is.
     let report = c.deref-in-Ok.ensures ∙ report_is ∙ report_as p halves c.args.output.now name_is in
     let said = subst (λ r. ReportEndsAs r (screen c.args.out.now) (screen c.print.new.out) c.print.result) report c.print.ensures.ending in
     ends_saved p halves old new (screen c.args.out.now) (screen c.print.new.out) c.print.result read
-        (saved_as p halves c.args.output.now c.deref.result.now c.args.made.now.file.items old new name_is c.deref.ensures.value file_is saved) said
+    (saved_as p halves c.args.output.now c.deref.result.now c.args.made.now.file.items old new name_is c.deref.ensures.value file_is saved) said
 
 pub returns-in-Err-Failed-clause-one : goal.returns-in-Err-Failed-clause-one
 returns-in-Err-Failed-clause-one g c = λ p halves name_is read file_is report_is.
@@ -27,10 +27,12 @@ returns-in-Err-Failed-clause-one g c = λ p halves name_is read file_is report_i
     let others = c.save.ensures.others in
     let failed = c.in-Err-Failed.is ∙ ap Err c.in-Err-Failed.field-0-is in
     let saved : IsHalfSaved c.args.output.now c.deref.result.now old new = record { others = record { told = others.told; each = others.each }; part = c.save.ensures.part failed } in
-    let said = c.tell_made.ensures.told (write_fault_line c.args.output.now) c.write_fault_text.ensures in
-    (halves, record {
+    let said = c.tell_made.ensures.told (write_fault_line c.args.output.now) c.write_fault_text.ensures in (
+      halves,
+      record {
         read = read;
         cause = c.save.ensures.failed failed;
         saved = half_saved_as p halves c.args.output.now c.deref.result.now c.args.made.now.file.items old new name_is c.deref.ensures.value file_is saved;
-        said = subst (λ n. IsToldOf (write_fault_line n) (screen c.args.out.now) (screen c.tell_made.new.out)) (sym name_is) said
-      })
+        said = subst (λ n. IsToldOf (write_fault_line n) (screen c.args.out.now) (screen c.tell_made.new.out)) (sym name_is) said;
+      },
+    )

@@ -1,8 +1,7 @@
-use Rattle.std.proofs.Common.{◌≡◌, ◌≤◌, ◌*◌, length, get_or, sym, ap, ◌∙◌, arith}
+use Rattle.std.proofs.Common.{length, get_or, ap, ◌∙◌, arith}
 use Rattle.elf_model.specs.Objects.{ObjectParts}
 use Rattle.elf_model.specs.declared.objects.Section.{Section}
 use Rattle.std.proofs.Common.{List}
-use Rattle.elf_read.specs.FirstForm.{code_bytes}
 use Rattle.guard_cli.proofs.Written.{length-code_bytes}
 use Rattle.guard_cli.proofs.form.code_of.Goals as goal
 

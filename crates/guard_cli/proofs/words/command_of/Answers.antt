@@ -1,6 +1,5 @@
-use Rattle.std.proofs.Common.{◌≡◌, ◌<◌, ◌≤◌, ℕ, List, [], ◌∷◌, length, map, get_or, string_bytes, sym, ap, ◌∙◌, subst, arith}
+use Rattle.std.proofs.Common.{map, string_bytes, ◌∙◌, arith}
 use Rattle.std.proofs.lemmas.List.{length-map}
-use Rattle.guard_cli.specs.Words.{Pair, IsCommand, IsHarden}
 use Rattle.guard_cli.proofs.Pairs.{command_length, several_of, one_of, word_read}
 use Rattle.guard_cli.proofs.words.command_of.Goals as goal
 

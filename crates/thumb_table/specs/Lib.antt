@@ -1,0 +1,5 @@
+pub mod Parts
+pub mod States
+pub mod Steps
+pub mod Schedules
+pub mod Images
