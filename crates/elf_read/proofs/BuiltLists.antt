@@ -1,5 +1,5 @@
 -- The lists of the object's parts, one header or one entry after another.
-use Rattle.std.proofs.Common.{◌≡◌, ◌≢◌, ◌≤◌, ◌<◌, ◌⊎◌, ℕ, zero, suc, ◌+◌, ◌-◌, ◌*◌, ◌/◌, ◌%◌, Bool, true, false, cond, not, ◌||◌, ◌&&◌, List, [], ◌∷◌, ◌++◌, length, get_or, take, append_assoc, Option, Some, None, inl, inr, arith, refl, sym, ap, ◌∙◌, subst, map, filter}
+use Rattle.std.proofs.Common.{◌≡◌, ◌≢◌, ◌≤◌, ◌<◌, ◌⊎◌, ℕ, zero, suc, ◌+◌, ◌-◌, ◌*◌, ◌/◌, ◌%◌, Bool, true, false, cond, not, ◌||◌, ◌&&◌, List, [], ◌∷◌, ◌++◌, length, get_or, take, append_assoc, length-append, Option, Some, None, inl, inr, arith, refl, sym, ap, ◌∙◌, subst, map, filter}
 use Rattle.std.specs.Prelude.{nat_lt, count_by, slice_index, ◌==◌, if◌then◌else◌}
 use Rattle.std.specs.List.{list_any, flat_map}
 use Rattle.std.proofs.lemmas.Bool.{cases_lt, cases_eq, cases_Bool, or_cases, eq-eqb, ne_eqb, eqb-true, lt-ltb, le-ltb, false≢true, not_from_true, not_from_false}
@@ -166,3 +166,16 @@ pub home_section : (b : List ℕ) (i n : ℕ) → i ≢ undefined_index → i �
 home_section b i n other far e =
     ap (λ (k : ℕ). home.Section k) e ∙ sym (ap (λ (t : Bool). if t then home.Undefined else if i == absolute_index then home.Absolute else home.Section (section_number b i)) (ne_eqb i undefined_index other)
     ∙ ap (λ (t : Bool). if t then home.Absolute else home.Section (section_number b i)) (ne_eqb i absolute_index far))
+
+-- one header more is counted
+pub counted_more : (p : ℕ → Bool) (h : ℕ) → 1 ≤ h → length (filter p (from 1 ((h + 1) - 1))) ≡ length (filter p (from 1 (h - 1))) + cond (p h) 1 0
+counted_more p h l =
+    let here : 1 + (h - 1) ≡ h = omega arith in
+    let next : (h + 1) - 1 ≡ (h - 1) + 1 = omega arith in
+    ap (λ (k : ℕ). length (filter p (from 1 k))) next ∙ ap (λ (xs : List ℕ). length (filter p xs)) (from_more 1 (h - 1))
+    ∙ ap length (filter-append p (from 1 (h - 1)) ((1 + (h - 1)) ∷ [])) ∙ length-append (filter p (from 1 (h - 1))) (filter p ((1 + (h - 1)) ∷ []))
+    ∙ ap (λ (k : ℕ). length (filter p (from 1 (h - 1))) + length (filter p (k ∷ []))) here ∙ ap (λ (n : ℕ). length (filter p (from 1 (h - 1))) + n) (one (p h))
+  where
+    one : (t : Bool) → length (cond t (h ∷ []) []) ≡ cond t 1 0
+    one true = refl
+    one false = refl

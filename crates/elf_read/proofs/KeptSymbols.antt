@@ -1,5 +1,5 @@
 -- The flags of symbols say which ones stay.
-use Rattle.std.proofs.Common.{◌≡◌, ◌≢◌, ◌≤◌, ◌<◌, ◌⊎◌, ℕ, zero, suc, ◌+◌, ◌-◌, ◌*◌, ◌/◌, Bool, true, false, cond, ◌||◌, List, [], ◌∷◌, ◌++◌, length, get_or, Option, Some, None, inl, inr, arith, refl, sym, ap, ◌∙◌, subst, map}
+use Rattle.std.proofs.Common.{◌≡◌, ◌≢◌, ◌≤◌, ◌<◌, ◌⊎◌, ℕ, zero, suc, ◌+◌, ◌-◌, ◌*◌, ◌/◌, ◌^◌, Bool, true, false, cond, ◌||◌, List, [], ◌∷◌, ◌++◌, length, get_or, Option, Some, None, inl, inr, arith, refl, sym, ap, ◌∙◌, subst, map}
 use Rattle.std.specs.Prelude.{find, ◌==◌}
 use Rattle.std.proofs.lemmas.Bool.{cases_lt, cases_eq, cases_Bool, or_cases, or_left, or_right, eq-eqb, ne_eqb, eqb-true, false≢true}
 use Rattle.std.proofs.lemmas.Option.{none-some, same_Some}
@@ -122,3 +122,16 @@ kept_home b e h other far =
     let long : length (map (is_kept b) (from 1 (header_count b - 1))) ≡ header_count b - 1 = length_made (is_kept b) 1 (header_count b - 1) in
     let there : IsHeader b i = record { behind_null = omega (arith, other); there = omega (arith, l, long, other) } in
     (there, sym (flag_is b i there) ∙ flag)
+
+-- there are fewer flags of symbols than bytes of the file
+pub few_symbol_flags : (b : List ℕ) → IsTabled b → length b < 2 ^ 32 → length (symbol_flags b) < 2 ^ 32
+few_symbol_flags b tabled small = go (symbol_table b) refl
+  where
+    go : (o : Option ℕ) → symbol_table b ≡ o → length (symbol_flags b) < 2 ^ 32
+    go None e = subst (λ (o : Option ℕ). length (false ∷ map (is_kept_symbol b) (symbol_places b o)) < 2 ^ 32) (sym e) (omega arith)
+    go (Some t) e =
+        let long = length_made (λ k. is_kept_symbol b ((header b t).offset + 16 * k)) 1 ((header b t).size / 16 - 1) in
+        let table = symbol_table_found b t e in
+        let kind : (header b t).kind ≡ symtab = table.2 in
+        let inside = tabled.inside t (record { behind_null = table.0; there = table.1 }) (λ n. absurd (omega (arith, kind, n))) in
+        subst (λ (f : List Bool). length f < 2 ^ 32) (sym (flags_are b t e)) (omega (arith, long, inside))

@@ -20,6 +20,9 @@ pub mod KindFaults
 pub mod KeptSymbols
 pub mod BadRelocs
 pub mod BuiltLists
-pub mod Whole
+pub mod Formed
 pub mod SoundSections
 pub mod SoundParts
+pub mod SoundOrder
+pub mod SoundObject
+pub mod AllFaults

@@ -11,7 +11,7 @@ use Rattle.std.proofs.lemmas.Option.{same_Some}
 use Rattle.elf_model.specs.declared.refusals.Limit.{Limit}
 use Rattle.elf_model.specs.declared.refusals.Refusal.TheVariants.{BadTable, SectionKind}
 use Rattle.elf_model.specs.declared.objects.Section.{Section}
-use Rattle.elf_model.specs.Constants.{nobits, symtab, strtab, rel, arm_exidx}
+use Rattle.elf_model.specs.Constants.{progbits, note, arm_attributes, nobits, symtab, strtab, rel, arm_exidx}
 use Rattle.elf_model.specs.Fields.{byte_at, half_at}
 use Rattle.elf_model.specs.Objects.{is_name, is_dropped_name, is_alignment, is_kept_kind, is_alloc, is_writable, is_exec, is_section, has_bytes}
 use Rattle.elf_model.specs.Files.{from, header, header_count, headers, contents, text_at, EndsAt, section_name, section_of, is_table, is_refused_kind, is_dropped, is_kept, kept_headers, section_number}
@@ -26,7 +26,8 @@ use Rattle.elf_read.proofs.BuiltLists.{none_less}
 -- texts
 
 short : (xs : List ℕ) (n k : ℕ) → n ≤ k → length (take n xs) ≤ k
-short [] n k l = omega arith
+short [] zero k l = omega arith
+short [] (suc n) k l = omega arith
 short (x ∷ xs) zero k l = omega arith
 short (x ∷ xs) (suc n) zero l = absurd (omega arith)
 short (x ∷ xs) (suc n) (suc k) l = let r = short xs n k (omega arith) in omega (arith, r)
@@ -38,7 +39,8 @@ first_at_most xs k z = elim (cases_lt k (position_or_len (λ c. c == 0) xs)) [
   ]
 
 get_take : (xs : List ℕ) (n k : ℕ) → k < length (take n xs) → (k < n) × (get_or (take n xs) k 0 ≡ get_or xs k 0)
-get_take [] n k l = absurd (omega arith)
+get_take [] zero k l = absurd (omega arith)
+get_take [] (suc n) k l = absurd (omega arith)
 get_take (x ∷ xs) zero k l = absurd (omega arith)
 get_take (x ∷ xs) (suc n) zero l = (omega arith, refl)
 get_take (x ∷ xs) (suc n) (suc k) l = let r = get_take xs n k (omega arith) in (omega (arith, r.0), r.1)
@@ -94,7 +96,7 @@ all_good g p f q first (suc n) a = go (all_good g p f q (first + 1) n (λ k l u.
 aligned : (a : ℕ) → (a ≢ 0 → is_alignment a ≡ true) → is_alignment (max 1 a) ≡ true
 aligned a h = elim (cases_eq a 0) [
     | inl z ↦ ap (λ (k : ℕ). is_alignment (max 1 k)) z
-    | inr n ↦ ap is_alignment (max-eq_right {m = 1} {n = a} (omega (arith, n))) ∙ h n
+    | inr n ↦ (let le : 1 ≤ a = omega (arith, n) in ap is_alignment (max-eq_right le) ∙ h n)
   ]
 
 module _ (b : List ℕ) (l : Limit) (tabled : IsTabled b) (named : IsNamed b) (tables : (s o : ℕ) → Fault b l BadTable s o → ⊥) (kinds : (s o : ℕ) → Fault b l SectionKind s o → ⊥) where
@@ -120,7 +122,7 @@ module _ (b : List ℕ) (l : Limit) (tabled : IsTabled b) (named : IsNamed b) (t
         kind = elim (or_cases (is_alloc (header b h).flags) (is_kept_kind (header b h).kind (header b h).flags) (not-false _ a.1)) [
           | inl m ↦
             let memory : is_memory_kind (header b h).kind ≡ true = true_from_ne_false _ (λ n. kinds h _ (memory_kind h i m n (inr stays))) in
-            ap (λ (t : Bool). if t then is_memory_kind (header b h).kind else _) m ∙ memory
+            ap (λ (t : Bool). if t then is_memory_kind (header b h).kind else list_any (λ k. (header b h).kind == k) (progbits ∷ note ∷ arm_attributes ∷ [])) m ∙ memory
           | inr y ↦ y
         ];
       }

@@ -21,7 +21,9 @@ mod reloc_faults;
 mod strings;
 mod symbols;
 mod tables;
+mod unfit;
 mod unhandled;
+mod whole;
 #[cfg(test)]
 mod tests;
 
