@@ -10,11 +10,7 @@ pub mod SoundSymbols
 pub mod NameFaults
 pub mod SymbolTable
 pub mod BadSymbols
-pub mod Frame
 pub mod Lowest
-pub mod Moves
-pub mod Refusing
-pub mod Standing
 pub mod LimitFaults
 pub mod KindFaults
 pub mod KeptSymbols

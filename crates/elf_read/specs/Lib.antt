@@ -1,5 +1,4 @@
 pub mod FirstForm
-pub mod FirstFile
 pub mod Faults
 pub mod Headers
 pub mod Keeping

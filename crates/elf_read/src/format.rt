@@ -1,14 +1,24 @@
 //! Whether a file is a relocatable file for Arm.
 
-ghost use Rattle.std.specs.Prelude.{◌≤◌, ℕ, length};
+ghost use Rattle.std.specs.Prelude.{◌≤◌, ◌↔◌, ℕ, length, IsTrue};
 ghost use Rattle.elf_model.specs.declared.refusals.Limit.{Limit};
 ghost use Rattle.elf_model.specs.declared.refusals.Refusal.TheVariants.{NotElf, NotArmRel};
 ghost use Rattle.elf_read.specs.Faults.{Fault};
+ghost use Rattle.elf_read.specs.FirstForm.{IsElf};
 ghost use Rattle.elf_read.specs.Places.{IsLowest};
 
-use crate::form::is_elf;
 use crate::headers::{half, word};
 use crate::places::Place;
+
+/// The first bytes of a file.
+const MAGIC: [u8; 4] = [0x7F, 0x45, 0x4C, 0x46];
+
+/// Whether a file begins as those of the format do, and is as long as a file header.
+fn is_elf(bytes: &[u8]) -> bool
+    ensures { IsTrue result ↔ IsElf bytes.now }
+{
+    bytes.len() >= 52 && &bytes[..4] == MAGIC.as_slice()
+}
 
 /// Where the file isn't of the format at all.
 pub(crate) fn first_not_elf(bytes: &[u8]) -> Option<Place>
