@@ -72,37 +72,41 @@ module _ (b : List ℕ) where
   taken_more h j r old new k at of word law taken = record {
     sound = λ p e. elim (cond_true (is_eq (pair_cmp k p)) (contains pair_cmp old p) (sym (law p) ∙ e)) [
       | inl t ↦
-        let same = pair_parts k p t in
-        record { g = h; i = j; q = r; before = inr (refl, omega arith); stands = at; of = sym of ∙ same.0; at = sym word ∙ same.1 }
+          let same = pair_parts k p t in
+          record { g = h; i = j; q = r; before = inr (refl, omega arith); stands = at; of = sym of ∙ same.0; at = sym word ∙ same.1 }
       | inr t ↦
-        let x = taken.sound p t in
-        record { g = x.g; i = x.i; q = x.q; before = elim x.before [ inl l ↦ inl l | inr l ↦ inr (l.0, omega (arith, l.1)) ]; stands = x.stands; of = x.of; at = x.at }
+          let x = taken.sound p t in
+          record { g = x.g; i = x.i; q = x.q; before = elim x.before [ inl l ↦ inl l | inr l ↦ inr (l.0, omega (arith, l.1)) ]; stands = x.stands; of = x.of; at = x.at }
     ];
     whole = λ p x. law p ∙ true_cond (is_eq (pair_cmp k p)) (contains pair_cmp old p) (elim x.before [
-        | inl l ↦ inr (taken.whole p (record { g = x.g; i = x.i; q = x.q; before = inl l; stands = x.stands; of = x.of; at = x.at }))
-        | inr l ↦ elim (cases_eq x.i j) [
-          | inl e ↦
+      | inl l ↦ inr (taken.whole p (record { g = x.g; i = x.i; q = x.q; before = inl l; stands = x.stands; of = x.of; at = x.at }))
+      | inr l ↦ elim (cases_eq x.i j) [
+        | inl e ↦
             let place : x.q ≡ r = x.stands.place ∙ ap (λ (g : ℕ). (header b g).offset + 8 * x.i) l.0 ∙ ap (λ (i : ℕ). (header b h).offset + 8 * i) e ∙ sym at.place in
             inl (pair_from k p (of ∙ ap (λ (g : ℕ). (header b g).info) (sym l.0) ∙ x.of) (word ∙ ap (word_at b) (sym place) ∙ x.at))
-          | inr n ↦ inr (taken.whole p (record { g = x.g; i = x.i; q = x.q; before = inr (l.0, omega (arith, n, l.1)); stands = x.stands; of = x.of; at = x.at }))
-        ]
-      ]);
+        | inr n ↦ inr (taken.whole p (record { g = x.g; i = x.i; q = x.q; before = inr (l.0, omega (arith, n, l.1)); stands = x.stands; of = x.of; at = x.at }))
+      ]
+    ]);
   }
 
   pub taken_next : (h n : ℕ) (taken : BTreeSet (ℕ × ℕ)) → ((j r : ℕ) → IsRelocAt b h j r → j < n) → AreTaken b h n taken → AreTaken b (h + 1) 0 taken
   taken_next h n taken all t = record {
     sound = λ p e. let x = t.sound p e in record { g = x.g; i = x.i; q = x.q; before = elim x.before [ inl l ↦ inl (omega (arith, l)) | inr l ↦ inl (omega (arith, l.0)) ]; stands = x.stands; of = x.of; at = x.at };
     whole = λ p x. t.whole p (record {
-        g = x.g; i = x.i; q = x.q;
-        before = elim x.before [
-          | inl l ↦ elim (cases_eq x.g h) [
-            | inl e ↦ inr (e, all x.i x.q (subst (λ (g : ℕ). IsRelocAt b g x.i x.q) e x.stands))
-            | inr d ↦ inl (omega (arith, d, l))
-          ]
-          | inr l ↦ absurd (omega (arith, l.1))
-        ];
-        stands = x.stands; of = x.of; at = x.at;
-      });
+      g = x.g;
+      i = x.i;
+      q = x.q;
+      before = elim x.before [
+        | inl l ↦ elim (cases_eq x.g h) [
+          | inl e ↦ inr (e, all x.i x.q (subst (λ (g : ℕ). IsRelocAt b g x.i x.q) e x.stands))
+          | inr d ↦ inl (omega (arith, d, l))
+        ]
+        | inr l ↦ absurd (omega (arith, l.1))
+      ];
+      stands = x.stands;
+      of = x.of;
+      at = x.at;
+    });
   }
 
   pub taken_none : (taken : BTreeSet (ℕ × ℕ)) → ((p : ℕ × ℕ) → contains pair_cmp taken p ≡ false) → AreTaken b 1 0 taken
@@ -120,26 +124,46 @@ module _ (b : List ℕ) where
       (of : k.0 ≡ (header b h).info) (at : k.1 ≡ word_at b r) (new : added ≡ not (contains pair_cmp old k))
       (set : (k : ℕ) → IsKeptSymbol b k → flag_at flags k ≡ true) (unset : (k : ℕ) → flag_at flags k ≡ true → IsKeptSymbol b k) where
     wrong_here : (d : ℕ) → HoldsIn (entry_tests b room flags added r) d → BadEntry b h j (r + d)
-    wrong_here d (inl t) = record { r = r; stands = stands; wrong = inl (omega (arith, t.0), elim (or_cases _ _ t.1) [
-        | inl a ↦ inr (moved h j k.0 k.1 (header b h).info (word_at b r) of at (taken.sound k (not-false _ (sym new ∙ not-true added a))))
-        | inr p ↦ inl (let l = leb-false (word_at b r + reloc_width (word_at b (r + 4) % 256)) room (not-true _ p) in omega (arith, l, wide))
-      ]) }
+    wrong_here d (inl t) = record {
+      r = r;
+      stands = stands;
+      wrong = inl (
+        omega (arith, t.0),
+        elim (or_cases _ _ t.1) [
+          | inl a ↦ inr (moved h j k.0 k.1 (header b h).info (word_at b r) of at (taken.sound k (not-false _ (sym new ∙ not-true added a))))
+          | inr p ↦ inl (let l = leb-false (word_at b r + reloc_width (word_at b (r + 4) % 256)) room (not-true _ p) in omega (arith, l, wide))
+        ],
+      );
+    }
     wrong_here d (inr (inl t)) =
         let parts = or_parts (word_at b (r + 4) % 256 == 0) (flag_at flags (word_at b (r + 4) / 256)) (not-true _ t.1) in
         record { r = r; stands = stands; wrong = inr (omega (arith, t.0), eqb-false (word_at b (r + 4) % 256) 0 parts.0, λ k. both_ways _ parts.1 (set (word_at b (r + 4) / 256) k)) }
-
     wrong_here d (inr (inr x)) = elim x [ ]
 
     right_there : (o : ℕ) → BadEntry b h j o → (d : ℕ) × (o ≡ r + d) × HoldsIn (entry_tests b room flags added r) d
     right_there o bad =
         let same : bad.r ≡ r = bad.stands.place ∙ sym stands.place in
         elim bad.wrong [
-          | inl w ↦ (0, omega (arith, w.0, same), inl (refl, elim w.1 [
-              | inl l ↦ or_right (not added) _ (not_from_false _ (lt-leb _ room (let m = subst (λ (x : ℕ). (header b (header b h).info).size < word_at b x + reloc_width (word_at b (x + 4) % 256)) same l in omega (arith, m, wide))))
-              | inr e ↦ or_left (not added) _ (not_from_false added (new ∙ ap not (taken.whole k (moved h j (header b h).info (word_at b r) k.0 k.1 (sym of) (sym at) (subst (λ (x : ℕ). IsEarlier b h j (header b h).info (word_at b x)) same e)))))
-            ]))
-          | inr w ↦ (4, omega (arith, w.0, same), inr (inl (refl, not_from_false _ (none (word_at b (r + 4) % 256) (word_at b (r + 4) / 256)
-              (subst (λ (x : ℕ). word_at b (x + 4) % 256 ≢ 0) same w.1) (subst (λ (x : ℕ). IsKeptSymbol b (word_at b (x + 4) / 256) → ⊥) same w.2)))))
+          | inl w ↦ (
+            0,
+            omega (arith, w.0, same),
+            inl (
+              refl,
+              elim w.1 [
+                | inl l ↦ or_right (not added) _ (not_from_false _ (lt-leb _ room (let m = subst (λ (x : ℕ). (header b (header b h).info).size < word_at b x + reloc_width (word_at b (x + 4) % 256)) same l in omega (arith, m, wide))))
+                | inr e ↦ or_left (not added) _ (not_from_false added (new ∙ ap not (taken.whole k (moved h j (header b h).info (word_at b r) k.0 k.1 (sym of) (sym at) (subst (λ (x : ℕ). IsEarlier b h j (header b h).info (word_at b x)) same e)))))
+              ],
+            ),
+          )
+          | inr w ↦ (
+            4,
+            omega (arith, w.0, same),
+            inr (inl (
+              refl,
+              not_from_false _ (none (word_at b (r + 4) % 256) (word_at b (r + 4) / 256)
+                  (subst (λ (x : ℕ). word_at b (x + 4) % 256 ≢ 0) same w.1) (subst (λ (x : ℕ). IsKeptSymbol b (word_at b (x + 4) / 256) → ⊥) same w.2)),
+            )),
+          )
         ]
       where
         none : (kind k : ℕ) → kind ≢ 0 → (IsKeptSymbol b k → ⊥) → ((kind == 0) || flag_at flags k) ≡ false
@@ -167,11 +191,12 @@ module _ (b : List ℕ) where
       where
         above : (i o : ℕ) → BadEntry b h i o → (header b h).offset + 8 * i ≤ o
         above i o bad = elim bad.wrong [ inl w ↦ omega (arith, w.0, bad.stands.place) | inr w ↦ omega (arith, w.0, bad.stands.place) ]
+
         go : (o i : ℕ) → BadEntry b h i o → d ≤ 4 → ((x : ℕ) → HoldsIn (entry_tests b room flags added r) x → x < d → ⊥) → o < r + d → ⊥
         go o i bad s first l = elim (cases_order i j) [
           | inl e ↦
-            let t = right_there o (subst (λ (x : ℕ). BadEntry b h x o) e bad) in
-            first t.0 t.2 (omega (arith, t.1, l))
+              let t = right_there o (subst (λ (x : ℕ). BadEntry b h x o) e bad) in
+              first t.0 t.2 (omega (arith, t.1, l))
           | inr x ↦ elim x [
             | inl u ↦ none i o u bad
             | inr u ↦ let a = above i o bad in omega (arith, a, u, l, s, stands.place)
@@ -254,12 +279,12 @@ module _ (b : List ℕ) where
 
   there_entry : (l : Limit) (h j o : ℕ) → BadEntry b h j o → Fault b l BadReloc h o
   there_entry l h j o bad = elim bad.wrong [
-      | inl w ↦ subst (λ (x : ℕ). Fault b l BadReloc h x) (sym w.0) (elim w.1 [
-        | inl p ↦ bad_place h j bad.r bad.stands p
-        | inr e ↦ second_place e.g e.i e.q h j bad.r e.before e.stands bad.stands e.of e.at
-      ])
-      | inr w ↦ subst (λ (x : ℕ). Fault b l BadReloc h x) (sym w.0) (bad_symbol h j bad.r bad.stands w.1 w.2)
-    ]
+    | inl w ↦ subst (λ (x : ℕ). Fault b l BadReloc h x) (sym w.0) (elim w.1 [
+      | inl p ↦ bad_place h j bad.r bad.stands p
+      | inr e ↦ second_place e.g e.i e.q h j bad.r e.before e.stands bad.stands e.of e.at
+    ])
+    | inr w ↦ subst (λ (x : ℕ). Fault b l BadReloc h x) (sym w.0) (bad_symbol h j bad.r bad.stands w.1 w.2)
+  ]
 
   there : (l : Limit) (h o : ℕ) → RelocFault b h o → Fault b l BadReloc h o
   there l h o (by_entry j bad) = there_entry l h j o bad

@@ -1,12 +1,12 @@
 -- The faults of symbols, and the tests that find them.
-use Rattle.std.proofs.Common.{◌≡◌, ◌≢◌, ◌<◌, ◌≤◌, ◌⊎◌, ℕ, zero, suc, ◌+◌, ◌*◌, ◌/◌, ◌%◌, Bool, true, false, not, ◌&&◌, ◌||◌, eqb, ltb, leb, List, [], ◌∷◌, length, Option, Some, None, inl, inr, arith, refl, sym, ◌∙◌, ap, subst}
-use Rattle.std.proofs.lemmas.Bool.{false≢true, and_parts, and_from, or_cases, or_left, or_right, eqb-true, eq-eqb, ltb-true, lt-ltb, leb-true, le-leb, not-true, not_from_false, false_from_ne_true, cases_lt, cases_eq, cases_order}
+use Rattle.std.proofs.Common.{◌≡◌, ◌≢◌, ◌<◌, ◌≤◌, ◌⊎◌, ℕ, zero, suc, ◌+◌, ◌*◌, ◌/◌, ◌%◌, Bool, true, false, not, ◌&&◌, ◌||◌, eqb, ltb, leb, List, Option, Some, None, inl, inr, arith, refl, sym, ◌∙◌, ap, subst}
+use Rattle.std.proofs.lemmas.Bool.{false≢true, and_parts, and_from, or_cases, or_left, or_right, eqb-true, eq-eqb, ltb-true, lt-ltb, leb-true, le-leb, not-true, not_from_false, cases_eq, cases_order}
 use Rattle.elf_model.specs.declared.refusals.Limit.{Limit}
 use Rattle.elf_model.specs.declared.refusals.Refusal.TheVariants.{BadSymbol}
 use Rattle.elf_model.specs.Constants.{symtab, local}
 use Rattle.elf_model.specs.Fields.{byte_at, half_at, word_at}
 use Rattle.elf_model.specs.Files.{header_count, header, IsKind}
-use Rattle.elf_read.specs.Faults.{Fault, IsSymbolAt, names_no_section, place_of}
+use Rattle.elf_read.specs.Faults.{Fault, IsSymbolAt, names_no_section}
 use Rattle.elf_read.specs.Faults.Fault.{other_binding, other_symbol_type, late_local, bad_index, bad_value}
 use Rattle.elf_read.specs.HeaderFaults.{IsTabled}
 use Rattle.elf_read.specs.Places.{first_of}

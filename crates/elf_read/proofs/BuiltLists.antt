@@ -29,9 +29,9 @@ kept_one p g x = go (p x)
 pub push_kept : {X Y : Type 0} (f : ℕ → X) (p : X → Bool) (g : X → Y) (first n : ℕ) (pre old new : List Y) → new ≡ old ++ cond (p (f (first + n))) (g (f (first + n)) ∷ []) [] → old ≡ pre ++ map g (filter p (map f (from first n))) → new ≡ pre ++ map g (filter p (map f (from first (n + 1))))
 push_kept f p g first n pre old new made so_far =
     let more : map g (filter p (map f (from first (n + 1)))) ≡ map g (filter p (map f (from first n))) ++ cond (p (f (first + n))) (g (f (first + n)) ∷ []) [] =
-        ap (λ (xs : List ℕ). map g (filter p (map f xs))) (from_more first n) ∙ ap (λ (xs : List _). map g (filter p xs)) (map-append f (from first n) ((first + n) ∷ []))
-        ∙ ap (map g) (filter-append p (map f (from first n)) (f (first + n) ∷ [])) ∙ map-append g (filter p (map f (from first n))) (filter p (f (first + n) ∷ []))
-        ∙ ap (λ (xs : List _). map g (filter p (map f (from first n))) ++ xs) (kept_one p g (f (first + n))) in
+    ap (λ (xs : List ℕ). map g (filter p (map f xs))) (from_more first n) ∙ ap (λ (xs : List _). map g (filter p xs)) (map-append f (from first n) ((first + n) ∷ []))
+    ∙ ap (map g) (filter-append p (map f (from first n)) (f (first + n) ∷ [])) ∙ map-append g (filter p (map f (from first n))) (filter p (f (first + n) ∷ []))
+    ∙ ap (λ (xs : List _). map g (filter p (map f (from first n))) ++ xs) (kept_one p g (f (first + n))) in
     made ∙ ap (λ (xs : List _). xs ++ cond (p (f (first + n))) (g (f (first + n)) ∷ []) []) so_far
     ∙ append_assoc pre (map g (filter p (map f (from first n)))) (cond (p (f (first + n))) (g (f (first + n)) ∷ []) [])
     ∙ ap (λ (xs : List _). pre ++ xs) (sym more)
@@ -128,9 +128,9 @@ symbol_number_is b counts k tabled c s =
 
 pub reloc_table_is : (b : List ℕ) (h : ℕ) → IsTabled b → IsHeader b h → is_reloc_table b h ≡ is_kept_relocs b h
 reloc_table_is b h tabled i = elim (cases_eq (header b h).kind rel) [
-    | inl e ↦ ap (λ (t : Bool). ((header b h).kind == rel) && t) (any_flag (is_kept b) (header_count b - 1) (header b h).info ∙ flag_is b (header b h).info (tabled.targets h (i.behind_null, i.there, e)).listed)
-    | inr n ↦ ap (λ (t : Bool). t && list_any (λ k. (header b h).info == k) (kept_headers b)) (ne_eqb (header b h).kind rel n) ∙ sym (ap (λ (t : Bool). t && is_kept b (header b h).info) (ne_eqb (header b h).kind rel n))
-  ]
+  | inl e ↦ ap (λ (t : Bool). ((header b h).kind == rel) && t) (any_flag (is_kept b) (header_count b - 1) (header b h).info ∙ flag_is b (header b h).info (tabled.targets h (i.behind_null, i.there, e)).listed)
+  | inr n ↦ ap (λ (t : Bool). t && list_any (λ k. (header b h).info == k) (kept_headers b)) (ne_eqb (header b h).kind rel n) ∙ sym (ap (λ (t : Bool). t && is_kept b (header b h).info) (ne_eqb (header b h).kind rel n))
+]
 
 -- the entries of the headers below h
 abbrev pub entries_up_to : List ℕ → ℕ → List (ℕ × ℕ)

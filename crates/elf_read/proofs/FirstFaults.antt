@@ -1,12 +1,12 @@
 -- From the lowest fault of each number to the first fault of all.
-use Rattle.std.proofs.Common.{◌≡◌, ◌<◌, ◌≤◌, ◌⊎◌, ℕ, ◌+◌, List, length, Option, Some, None, inl, inr, arith, refl, sym, ◌∙◌, ap, subst}
-use Rattle.std.proofs.lemmas.Bool.{cases_lt, cases_eq}
+use Rattle.std.proofs.Common.{◌≡◌, ◌<◌, ◌≤◌, ℕ, ◌+◌, List, length, Some, None, inl, inr, arith, refl, subst}
+use Rattle.std.proofs.lemmas.Bool.{cases_eq}
 use Rattle.elf_model.specs.declared.refusals.Refusal.{Refusal}
 use Rattle.elf_model.specs.declared.refusals.Refusal.TheVariants.{NotElf, NotArmRel, BadTable, BadName, BadSymbol}
 use Rattle.elf_model.specs.declared.refusals.Limit.{Limit}
 use Rattle.elf_model.specs.Refusals.{number_of}
 use Rattle.elf_read.specs.declared.places.Place.{Place}
-use Rattle.elf_read.specs.Faults.{Fault, IsFirstFault, IsFaultlessBelow}
+use Rattle.elf_read.specs.Faults.{Fault, IsFaultlessBelow}
 use Rattle.elf_read.specs.FirstFaults.{IsFirstBelow, spot_at}
 use Rattle.elf_read.specs.HeaderFaults.{IsTabled}
 use Rattle.elf_read.specs.Places.{IsLowest}

@@ -1,5 +1,5 @@
 -- Files of another format, and of another kind.
-use Rattle.std.proofs.Common.{◌≡◌, ◌≢◌, ◌<◌, ◌≤◌, ◌⊎◌, ℕ, ◌/◌, ◌^◌, List, [], ◌∷◌, length, take, inl, inr, arith, refl}
+use Rattle.std.proofs.Common.{◌≡◌, ◌<◌, ◌⊎◌, ℕ, ◌/◌, ◌^◌, List, length, inl, inr, arith, refl}
 use Rattle.elf_model.specs.declared.refusals.Limit.{Limit}
 use Rattle.elf_model.specs.declared.refusals.Refusal.TheVariants.{NotElf, NotArmRel}
 use Rattle.elf_model.specs.Fields.{byte_at, half_at, word_at}

@@ -74,11 +74,13 @@ module _ (b : List ℕ) (tabled : IsTabled b) (homes : HasHomes b) where
     where
       i : ℕ
       i = half_at b (e + 14)
+
       no_section : names_no_section (half_at b (e + 14)) ≡ true → ((half_at b (e + 14) == undefined_index) || ((half_at b (e + 14) == absolute_index) || flag_at (kept_flags b) (half_at b (e + 14)))) ≡ true
       no_section h = elim (or_cases (half_at b (e + 14) == undefined_index) (half_at b (e + 14) == absolute_index) h) [
         | inl u ↦ or_left _ _ u
         | inr a ↦ or_right (half_at b (e + 14) == undefined_index) _ (or_left _ _ a)
       ]
+
       go : (names_no_section (half_at b (e + 14)) ≡ true) ⊎ (half_at b (e + 14) < header_count b) → (names_no_section (half_at b (e + 14)) ≡ true) ⊎ (is_kept b (half_at b (e + 14)) ≡ true) → ((half_at b (e + 14) == undefined_index) || ((half_at b (e + 14) == absolute_index) || flag_at (kept_flags b) (half_at b (e + 14)))) ≡ true
       go near (inl h) = no_section h
       go (inl h) (inr k) = no_section h
@@ -89,12 +91,12 @@ module _ (b : List ℕ) (tabled : IsTabled b) (homes : HasHomes b) where
 
   home_of : (e : ℕ) → is_kept_symbol b e ≡ true → (names_no_section (half_at b (e + 14)) ≡ true) ⊎ (is_kept b (half_at b (e + 14)) ≡ true)
   home_of e h = elim (or_cases (half_at b (e + 14) == undefined_index) _ (sym (kept_symbol_is b e) ∙ h)) [
-      | inl u ↦ inl (or_left _ _ u)
-      | inr x ↦ elim (or_cases (half_at b (e + 14) == absolute_index) _ x) [
-        | inl a ↦ inl (or_right (half_at b (e + 14) == undefined_index) _ a)
-        | inr f ↦ inr (sym (flag_is b (half_at b (e + 14)) (listed (half_at b (e + 14)) f)) ∙ f)
-      ]
+    | inl u ↦ inl (or_left _ _ u)
+    | inr x ↦ elim (or_cases (half_at b (e + 14) == absolute_index) _ x) [
+      | inl a ↦ inl (or_right (half_at b (e + 14) == undefined_index) _ a)
+      | inr f ↦ inr (sym (flag_is b (half_at b (e + 14)) (listed (half_at b (e + 14)) f)) ∙ f)
     ]
+  ]
     where
       listed : (i : ℕ) → flag_at (kept_flags b) i ≡ true → IsHeader b i
       listed i f =

@@ -44,19 +44,18 @@ there b l h d i (inl t) =
     let same : header_place b h ≡ header_place b h + d = omega (arith, t.0) in
     subst (λ (o : ℕ). Fault b l SectionKind h o) same (own_map h i parts.0 parts.1)
 there b l h d i (inr (inl t)) = subst (λ (e : ℕ). Fault b l SectionKind h (header_place b h + e)) (sym t.0) (elim (or_cases _ _ t.1) [
-      | inl r ↦ refused_kind h i r
-      | inr m ↦
-        let a = and_parts _ _ m in
-        let k = and_parts _ _ a.1 in
-        memory_kind h i a.0 (not-true _ k.0) (either_back (is_table (header b h).kind) (is_dropped b h) k.1)
-    ])
+  | inl r ↦ refused_kind h i r
+  | inr m ↦
+      let a = and_parts _ _ m in
+      let k = and_parts _ _ a.1 in
+      memory_kind h i a.0 (not-true _ k.0) (either_back (is_table (header b h).kind) (is_dropped b h) k.1)
+])
 there b l h d i (inr (inr (inl t))) =
     let a = and_parts _ _ t.1 in
     subst (λ (e : ℕ). Fault b l SectionKind h (header_place b h + e)) (sym t.0) (elim (or_cases _ _ a.1) [
       | inl w ↦ writable_code h i a.0 w
       | inr k ↦ empty_code h i a.0 (eqb-true _ _ k)
     ])
-
 there b l h d i (inr (inr (inr x))) = elim x [ ]
 
 first_is : (b : List ℕ) (l : Limit) (h : ℕ) (r : Option ℕ) → r ≡ first_of (kind_tests b (is_input_limit l) h) → IsFirstOf (kind_tests b (is_input_limit l) h) r

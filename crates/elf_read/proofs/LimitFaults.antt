@@ -107,14 +107,14 @@ module _ (b : List ℕ) (l : Limit) where
         elim (or_cases (nat_lt l.symbols symbols) (nat_lt l.relocs r || nat_lt l.code c) t) [
           | inl n ↦ by_symbols (let m = ltb-true l.symbols symbols n in omega (arith, m, of))
           | inr u ↦
-            elim (or_cases (nat_lt l.relocs r) (nat_lt l.code c) u) [
-              | inl n ↦
-                let m = ltb-true l.relocs r n in
-                by_relocs (held (is_kept_relocs b h) ((header b h).size / 8) (λ z. omega (arith, z, m, e, sums.few))) (omega (arith, m, e, sums.relocs_are, relocs_more b h one))
-              | inr n ↦
-                let m = ltb-true l.code c n in
-                by_code (held (is_code_header b h) (header b h).size (λ z. omega (arith, z, m, f, sums.little))) (omega (arith, m, f, sums.code_is, code_more b h one))
-            ]
+              elim (or_cases (nat_lt l.relocs r) (nat_lt l.code c) u) [
+                | inl n ↦
+                    let m = ltb-true l.relocs r n in
+                    by_relocs (held (is_kept_relocs b h) ((header b h).size / 8) (λ z. omega (arith, z, m, e, sums.few))) (omega (arith, m, e, sums.relocs_are, relocs_more b h one))
+                | inr n ↦
+                    let m = ltb-true l.code c n in
+                    by_code (held (is_code_header b h) (header b h).size (λ z. omega (arith, z, m, f, sums.little))) (omega (arith, m, f, sums.code_is, code_more b h one))
+              ]
         ]
 
     parts : passes l symbols r c ≡ false → (nat_lt l.symbols symbols ≡ false) × (nat_lt l.relocs r ≡ false) × (nat_lt l.code c ≡ false)

@@ -12,12 +12,13 @@ pub under_more : (P : ℕ → ℕ → Type 0) (h : ℕ) → NoneUnder P h → ((
 under_more P h none here s o l p = elim (cases_eq s h) [ inl e ↦ here o (subst (λ (k : ℕ). P k o) e p) | inr n ↦ none s o (omega (arith, n)) p ]
 
 pub lowest_at : (P : ℕ → ℕ → Type 0) (h d : ℕ) → NoneUnder P h → P h d → ((o : ℕ) → P h o → o < d → ⊥) → (p : Place) → p.section ≡ h → p.offset ≡ d → IsLowest P (Some p)
-lowest_at P h d none at least p e f =
-    (subst (λ (s : ℕ). P s p.offset) (sym e) (subst (λ (o : ℕ). P h o) (sym f) at),
-    λ s o q below. elim below [
-      | inl l ↦ none s o (omega (arith, e)) q
-      | inr b ↦ least o (subst (λ (k : ℕ). P k o) (omega (arith, e, b.0)) q) (omega (arith, f, b.1))
-    ])
+lowest_at P h d none at least p e f = (
+  subst (λ (s : ℕ). P s p.offset) (sym e) (subst (λ (o : ℕ). P h o) (sym f) at),
+  λ s o q below. elim below [
+    | inl l ↦ none s o (omega (arith, e)) q
+    | inr b ↦ least o (subst (λ (k : ℕ). P k o) (omega (arith, e, b.0)) q) (omega (arith, f, b.1))
+  ],
+)
 
 pub lowest_none : (P : ℕ → ℕ → Type 0) (n : ℕ) → NoneUnder P n → ((s o : ℕ) → P s o → s < n) → IsLowest P None
 lowest_none P n none all s o p = none s o (all s o p) p

@@ -1,14 +1,14 @@
 -- Names that don't end, and the one at the lowest place.
-use Rattle.std.proofs.Common.{◌≡◌, ◌≢◌, ◌<◌, ◌≤◌, ◌⊎◌, ℕ, zero, suc, ◌+◌, ◌-◌, ◌*◌, ◌/◌, Bool, true, false, ◌||◌, ◌&&◌, List, [], ◌∷◌, length, Option, Some, None, inl, inr, arith, refl, sym, ◌∙◌, ap, subst, cond, eqb, ltb}
-use Rattle.std.specs.Prelude.{find, ◌==◌, nat_lt, if◌then◌else◌, IsTrue, ◌↔◌}
-use Rattle.std.proofs.lemmas.Bool.{false≢true, cases_eq, cases_lt, cases_Bool, and_parts, and_from, or_cases, or_parts, ltb-true, ltb-false, eqb-true, eqb-false, and_cases}
+use Rattle.std.proofs.Common.{◌≡◌, ◌≢◌, ◌<◌, ◌≤◌, ◌⊎◌, ℕ, ◌+◌, ◌*◌, ◌/◌, Bool, true, false, ◌||◌, ◌&&◌, List, Option, Some, None, inl, inr, arith, refl, sym, ◌∙◌, ap, subst, cond, eqb, ltb}
+use Rattle.std.specs.Prelude.{IsTrue, ◌↔◌}
+use Rattle.std.proofs.lemmas.Bool.{false≢true, cases_eq, cases_lt, and_parts, or_cases, or_parts, ltb-true, ltb-false, eqb-true, eqb-false, and_cases}
 use Rattle.elf_model.specs.declared.refusals.Limit.{Limit}
 use Rattle.elf_model.specs.declared.refusals.Refusal.TheVariants.{BadName}
-use Rattle.elf_model.specs.Constants.{symtab, strtab, rel}
+use Rattle.elf_model.specs.Constants.{symtab, rel}
 use Rattle.elf_model.specs.Fields.{half_at, word_at}
-use Rattle.elf_model.specs.Files.{from, header_count, header_place, header, headers, IsKind, EndsAt, symbol_table}
+use Rattle.elf_model.specs.Files.{header_place, header, IsKind, EndsAt}
 use Rattle.elf_read.specs.declared.places.Place.{Place}
-use Rattle.elf_read.specs.Faults.{Fault, IsHeader, IsSymbolAt}
+use Rattle.elf_read.specs.Faults.{Fault, IsHeader}
 use Rattle.elf_read.specs.Faults.Fault.{section_unnamed, symbol_unnamed}
 use Rattle.elf_read.specs.HeaderFaults.{IsTabled}
 use Rattle.elf_read.specs.Places.{IsBelow, IsLowest, lower_of}

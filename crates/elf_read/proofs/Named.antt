@@ -1,12 +1,11 @@
 -- In a file without faults of its names every name ends.
-use Rattle.std.proofs.Common.{◌≡◌, ◌≢◌, ◌<◌, ◌≤◌, ◌⊎◌, ℕ, zero, suc, ◌+◌, List, inl, inr, arith, refl, subst}
+use Rattle.std.proofs.Common.{◌≡◌, ◌<◌, ◌⊎◌, ℕ, zero, suc, ◌+◌, List, inl, inr, arith, subst}
 use Rattle.std.proofs.lemmas.Bool.{cases_lt, cases_eq}
 use Rattle.elf_model.specs.declared.refusals.Limit.{Limit}
 use Rattle.elf_model.specs.declared.refusals.Refusal.TheVariants.{BadName}
-use Rattle.elf_model.specs.Constants.{rel}
-use Rattle.elf_model.specs.Fields.{byte_at, half_at, word_at}
+use Rattle.elf_model.specs.Fields.{byte_at}
 use Rattle.elf_model.specs.Files.{header, contents, EndsAt}
-use Rattle.elf_read.specs.Faults.{Fault, IsHeader, IsSymbolAt}
+use Rattle.elf_read.specs.Faults.{Fault}
 use Rattle.elf_read.specs.Faults.Fault.{section_unnamed, symbol_unnamed}
 use Rattle.elf_read.specs.Texts.{IsNamed}
 

@@ -65,9 +65,11 @@ module _ (b : List ℕ) where
     where
       inner : is_reloc_table b first ≡ true → Apart R (entries_of b first)
       inner e = apart_made R (λ j. (first, (header b first).offset + 8 * j)) 0 ((header b first).size / 8) (λ i k l m u. a first i first k e e (omega arith) (omega arith) (omega arith) (omega arith) (omega arith) (omega arith) (inr (refl, m)))
+
       cross : is_reloc_table b first ≡ true → All (λ x. All (R x) (flat_map (entries_of b) (filter (is_reloc_table b) (from (first + 1) n)))) (entries_of b first)
       cross e = all_made (λ x. All (R x) (flat_map (entries_of b) (filter (is_reloc_table b) (from (first + 1) n)))) (λ j. (first, (header b first).offset + 8 * j)) 0 ((header b first).size / 8)
           (λ i l u. all_entries (R (first, (header b first).offset + 8 * i)) (first + 1) n (λ h j p q y m. a first i h j e y (omega arith) (omega arith) (omega arith) (omega arith) (omega arith) m (inl (omega arith))))
+
       go : Apart R (flat_map (entries_of b) (filter (is_reloc_table b) (from (first + 1) n))) → (is_reloc_table b first ≡ true → Apart R (entries_of b first)) → (is_reloc_table b first ≡ true → All (λ x. All (R x) (flat_map (entries_of b) (filter (is_reloc_table b) (from (first + 1) n)))) (entries_of b first))
           → (t : Bool) → is_reloc_table b first ≡ t → Apart R (flat_map (entries_of b) (cond t (first ∷ filter (is_reloc_table b) (from (first + 1) n)) (filter (is_reloc_table b) (from (first + 1) n))))
       go rest own far true e = apart_append R (entries_of b first) (flat_map (entries_of b) (filter (is_reloc_table b) (from (first + 1) n))) (own e) rest (far e)
@@ -93,18 +95,18 @@ count_none q (x ∷ xs) a =
 pub count_apart : (q : Reloc) (xs : List Reloc) → Apart Differ xs → count_by (same_place q) xs ≤ 1
 count_apart q [] a = omega arith
 count_apart q (x ∷ xs) a = elim (cases_Bool (same_place q x)) [
-    | inl y ↦ (
+  | inl y ↦ (
       let one = count_cons (same_place q) x xs ∙ ap (λ (t : Bool). cond t (1 + count_by (same_place q) xs) (count_by (same_place q) xs)) y in
       let here = same_parts q x y in
       let none = count_none q xs (λ k d l. false_from_ne_true _ (λ t.
       let there = same_parts q (get_or xs k d) t in
       a.0 k d l (sym here.0 ∙ there.0) (sym here.1 ∙ there.1))) in
       omega (arith, one, none))
-    | inr f ↦ (
+  | inr f ↦ (
       let one = count_cons (same_place q) x xs ∙ ap (λ (t : Bool). cond t (1 + count_by (same_place q) xs) (count_by (same_place q) xs)) f in
       let rest = count_apart q xs a.1 in
       omega (arith, one, rest))
-  ]
+]
 
 more_at : (t : Bool) (n : ℕ) → n ≤ cond t (1 + n) n
 more_at true n = omega arith

@@ -46,9 +46,10 @@ locals_good g p f first (suc n) a = go (locals_good g p f (first + 1) n (λ j k 
   where
     head : (((f (g first)).bind == local) || not (list_any (λ (t : Symbol). t.bind == local) (map f (filter p (map g (from (first + 1) n)))))) ≡ true
     head = elim (cases_eq (f (g first)).bind local) [
-        | inl e ↦ or_left _ _ (eq-eqb (f (g first)).bind local e)
-        | inr d ↦ or_right ((f (g first)).bind == local) _ (not_from_false _ (none_of g p f (λ (t : Symbol). t.bind == local) (first + 1) n (λ k l u y. ne_eqb (f (g k)).bind local (λ e. d (a first k (omega arith) (omega arith) (omega arith) e)))))
-      ]
+      | inl e ↦ or_left _ _ (eq-eqb (f (g first)).bind local e)
+      | inr d ↦ or_right ((f (g first)).bind == local) _ (not_from_false _ (none_of g p f (λ (t : Symbol). t.bind == local) (first + 1) n (λ k l u y. ne_eqb (f (g k)).bind local (λ e. d (a first k (omega arith) (omega arith) (omega arith) e)))))
+    ]
+
     go : locals_first (map f (filter p (map g (from (first + 1) n)))) ≡ true
         → (((f (g first)).bind == local) || not (list_any (λ (t : Symbol). t.bind == local) (map f (filter p (map g (from (first + 1) n)))))) ≡ true
         → (t : Bool) → locals_first (map f (cond t (g first ∷ filter p (map g (from (first + 1) n))) (filter p (map g (from (first + 1) n))))) ≡ true
@@ -66,6 +67,7 @@ module _ (b : List ℕ) (tabled : IsTabled b) (named : IsNamed b) (symbols : Are
       other u v =
           ap (λ (t : Bool). if t then home.Undefined else if half_at b (e + 14) == absolute_index then home.Absolute else home.Section (section_number b (half_at b (e + 14)))) (ne_eqb _ undefined_index u)
           ∙ ap (λ (t : Bool). if t then home.Absolute else home.Section (section_number b (half_at b (e + 14)))) (ne_eqb _ absolute_index v)
+
       go : (half_at b (e + 14) ≡ undefined_index) ⊎ (half_at b (e + 14) ≡ undefined_index → ⊥) → (half_at b (e + 14) ≡ absolute_index) ⊎ (half_at b (e + 14) ≡ absolute_index → ⊥) → has_home (map (section_of b) (kept_headers b)) (symbol_of b e) (home_of b (half_at b (e + 14))) ≡ true
       go (inl u) a =
           ap (λ (t : Bool). has_home (map (section_of b) (kept_headers b)) (symbol_of b e) (if t then home.Undefined else if half_at b (e + 14) == absolute_index then home.Absolute else home.Section (section_number b (half_at b (e + 14))))) (eq-eqb _ undefined_index u)
@@ -115,8 +117,8 @@ module _ (b : List ℕ) (tabled : IsTabled b) (named : IsNamed b) (symbols : Are
       let below = s.stands.there in
       let at = get_numbered (λ i. (header b t).offset + 16 * i) (is_kept_symbol b) 1 ((header b t).size / 16 - 1) k (λ i j l. omega (arith, l)) (omega (arith, above)) (omega (arith, above, below)) stays in
       let same : slice_get (kept_symbols b) (symbol_number b (symbol_table b) k) ≡ Some ((header b t).offset + 16 * k) =
-          ap (λ (o : Option ℕ). slice_get (filter (is_kept_symbol b) (symbol_places b o)) (symbol_number b o k)) table
-          ∙ ap (λ (o : Option ℕ). slice_get (filter (is_kept_symbol b) (symbol_places b (Some t))) (count_by (λ e. nat_lt e ((header b t).offset + 16 * k)) (filter (is_kept_symbol b) (symbol_places b o)))) table ∙ at in
+      ap (λ (o : Option ℕ). slice_get (filter (is_kept_symbol b) (symbol_places b o)) (symbol_number b o k)) table
+      ∙ ap (λ (o : Option ℕ). slice_get (filter (is_kept_symbol b) (symbol_places b (Some t))) (count_by (λ e. nat_lt e ((header b t).offset + 16 * k)) (filter (is_kept_symbol b) (symbol_places b o)))) table ∙ at in
       slice_get_within (map (symbol_of b) (kept_symbols b)) _ _ (get_map (symbol_of b) (kept_symbols b) _ _ same)
 
 -- kinds of relocations
@@ -136,12 +138,12 @@ module _ (b : List ℕ) (l : Limit) (tabled : IsTabled b) (named : IsNamed b) (s
       let section = section_there b (header b h).info target.listed at.of_kept in
       let filled : not ((header b (header b h).info).kind == nobits) ≡ true = not_from_false _ (ne_eqb _ nobits (λ e. relocs h _ (nobits_target h at.table at.of_kept e))) in
       let inside : nat_le (word_at b r + place_width (reloc_kind code)) (header b (header b h).info).size ≡ true =
-          le-leb _ _ (elim (cases_lt (header b (header b h).info).size (word_at b r + reloc_width code)) [
-            | inl out ↦ absurd (relocs h r (bad_place h j r at out))
-            | inr fits ↦ (let same = width_same code in omega (arith, same, fits))
-          ]) in
+      le-leb _ _ (elim (cases_lt (header b (header b h).info).size (word_at b r + reloc_width code)) [
+        | inl out ↦ absurd (relocs h r (bad_place h j r at out))
+        | inr fits ↦ (let same = width_same code in omega (arith, same, fits))
+      ]) in
       let placed : is_placed (reloc_of b (h, r)) (slice_get (map (section_of b) (kept_headers b)) (section_number b (header b h).info)) ≡ true =
-          ap (is_placed (reloc_of b (h, r))) section ∙ and_from _ _ filled inside in
+      ap (is_placed (reloc_of b (h, r))) section ∙ and_from _ _ filled inside in
       and_from _ _ (and_from _ _ placed (kind_good code nonzero)) (lt-ltb _ _ (symbol_numbered b tabled named symbols homes (word_at b (r + 4) / 256) (has h j r at nonzero)))
 
   -- relocations at one place of the object are one relocation
@@ -154,5 +156,6 @@ module _ (b : List ℕ) (l : Limit) (tabled : IsTabled b) (named : IsNamed b) (s
     where
       section_target : (x : ℕ) → IsKind b x rel → is_kept b (header b x).info ≡ true → IsHeader b (header b x).info × (is_kept b (header b x).info ≡ true)
       section_target x k y = ((tabled.targets x k).listed, y)
+
       same_number : (x y : ℕ) → IsHeader b x → is_kept b x ≡ true → IsHeader b y → is_kept b y ≡ true → section_number b x ≡ section_number b y → x ≡ y
       same_number x y i k j m e = number_tells b x y i k j m e

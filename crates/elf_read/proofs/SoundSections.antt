@@ -34,9 +34,9 @@ short (x ∷ xs) (suc n) (suc k) l = let r = short xs n k (omega arith) in omega
 
 first_at_most : (xs : List ℕ) (k : ℕ) → (get_or xs k 0 ≡ 0) → position_or_len (λ c. c == 0) xs ≤ k
 first_at_most xs k z = elim (cases_lt k (position_or_len (λ c. c == 0) xs)) [
-    | inl l ↦ absurd (both_ways _ (fails_before_first (λ c. c == 0) xs k 0 l) (eq-eqb (get_or xs k 0) 0 z))
-    | inr l ↦ l
-  ]
+  | inl l ↦ absurd (both_ways _ (fails_before_first (λ c. c == 0) xs k 0 l) (eq-eqb (get_or xs k 0) 0 z))
+  | inr l ↦ l
+]
 
 get_take : (xs : List ℕ) (n k : ℕ) → k < length (take n xs) → (k < n) × (get_or (take n xs) k 0 ≡ get_or xs k 0)
 get_take [] zero k l = absurd (omega arith)
@@ -65,12 +65,12 @@ pub get_numbered : (g : ℕ → ℕ) (p : ℕ → Bool) (first n h : ℕ) → ((
     → slice_get (filter p (map g (from first n))) (count_by (λ e. nat_lt e (g h)) (filter p (map g (from first n)))) ≡ Some (g h)
 get_numbered g p first zero h up l u y = absurd (omega arith)
 get_numbered g p first (suc n) h up l u y = elim (cases_eq first h) [
-    | inl e ↦ (
+  | inl e ↦ (
       let none = none_less g p (first + 1) n (g h) (λ k a. let m = up h k (omega (arith, a, e)) in omega (arith, m)) in
       let here : p (g first) ≡ true = subst (λ (k : ℕ). p (g k) ≡ true) (sym e) y in
       at_front (filter p (map g (from (first + 1) n))) (p (g first)) here (ap g e) none)
-    | inr d ↦ behind (filter p (map g (from (first + 1) n))) (p (g first)) (lt-ltb (g first) (g h) (up first h (omega (arith, d, l)))) (get_numbered g p (first + 1) n h up (omega (arith, d, l)) (omega (arith, u)) y)
-  ]
+  | inr d ↦ behind (filter p (map g (from (first + 1) n))) (p (g first)) (lt-ltb (g first) (g h) (up first h (omega (arith, d, l)))) (get_numbered g p (first + 1) n h up (omega (arith, d, l)) (omega (arith, u)) y)
+]
   where
     at_front : (rest : List ℕ) (t : Bool) → t ≡ true → g first ≡ g h → count_by (λ e. nat_lt e (g h)) rest ≡ 0 → slice_get (cond t (g first ∷ rest) rest) (count_by (λ e. nat_lt e (g h)) (cond t (g first ∷ rest) rest)) ≡ Some (g h)
     at_front rest false f e none = absurd (false≢true f)
@@ -78,6 +78,7 @@ get_numbered g p first (suc n) h up l u y = elim (cases_eq first h) [
         let least : nat_lt (g first) (g h) ≡ false = le-ltb (g first) (g h) (omega (arith, e)) in
         let zeros : count_by (λ e. nat_lt e (g h)) (g first ∷ rest) ≡ 0 = count_cons (λ e. nat_lt e (g h)) (g first) rest ∙ ap (λ (t : Bool). cond t (1 + count_by (λ e. nat_lt e (g h)) rest) (count_by (λ e. nat_lt e (g h)) rest)) least ∙ none in
         ap (slice_get (g first ∷ rest)) zeros ∙ ap (λ (x : ℕ). Some x) e
+
     behind : (rest : List ℕ) (t : Bool) → nat_lt (g first) (g h) ≡ true → slice_get rest (count_by (λ e. nat_lt e (g h)) rest) ≡ Some (g h) → slice_get (cond t (g first ∷ rest) rest) (count_by (λ e. nat_lt e (g h)) (cond t (g first ∷ rest) rest)) ≡ Some (g h)
     behind rest false less at = at
     behind rest true less at =
@@ -95,9 +96,9 @@ all_good g p f q first (suc n) a = go (all_good g p f q (first + 1) n (λ k l u.
 
 aligned : (a : ℕ) → (a ≢ 0 → is_alignment a ≡ true) → is_alignment (max 1 a) ≡ true
 aligned a h = elim (cases_eq a 0) [
-    | inl z ↦ ap (λ (k : ℕ). is_alignment (max 1 k)) z
-    | inr n ↦ (let le : 1 ≤ a = omega (arith, n) in ap is_alignment (max-eq_right le) ∙ h n)
-  ]
+  | inl z ↦ ap (λ (k : ℕ). is_alignment (max 1 k)) z
+  | inr n ↦ (let le : 1 ≤ a = omega (arith, n) in ap is_alignment (max-eq_right le) ∙ h n)
+]
 
 module _ (b : List ℕ) (l : Limit) (tabled : IsTabled b) (named : IsNamed b) (tables : (s o : ℕ) → Fault b l BadTable s o → ⊥) (kinds : (s o : ℕ) → Fault b l SectionKind s o → ⊥) where
   pub record KeptFacts (h : ℕ) : Type 0 where
@@ -112,7 +113,7 @@ module _ (b : List ℕ) (l : Limit) (tabled : IsTabled b) (named : IsNamed b) (t
       let stays : is_dropped b h ≡ false = not-true _ parts.1 in
       let plain : is_refused_kind (header b h).kind ≡ false = false_from_ne_true _ (λ r. kinds h _ (refused_kind h i r)) in
       let rest : (is_dropped_name (section_name b h) || ((header b h).kind == arm_exidx) || not (is_alloc (header b h).flags || is_kept_kind (header b h).kind (header b h).flags)) ≡ false =
-          ap (λ (t : Bool). not t && (is_dropped_name (section_name b h) || ((header b h).kind == arm_exidx) || not (is_alloc (header b h).flags || is_kept_kind (header b h).kind (header b h).flags))) (sym plain) ∙ stays in
+      ap (λ (t : Bool). not t && (is_dropped_name (section_name b h) || ((header b h).kind == arm_exidx) || not (is_alloc (header b h).flags || is_kept_kind (header b h).kind (header b h).flags))) (sym plain) ∙ stays in
       let a = or_parts (is_dropped_name (section_name b h) || ((header b h).kind == arm_exidx)) (not (is_alloc (header b h).flags || is_kept_kind (header b h).kind (header b h).flags)) rest in
       let d = or_parts (is_dropped_name (section_name b h)) ((header b h).kind == arm_exidx) a.0 in
       record {
@@ -121,17 +122,17 @@ module _ (b : List ℕ) (l : Limit) (tabled : IsTabled b) (named : IsNamed b) (t
         name = d.0;
         kind = elim (or_cases (is_alloc (header b h).flags) (is_kept_kind (header b h).kind (header b h).flags) (not-false _ a.1)) [
           | inl m ↦
-            let memory : is_memory_kind (header b h).kind ≡ true = true_from_ne_false _ (λ n. kinds h _ (memory_kind h i m n (inr stays))) in
-            ap (λ (t : Bool). if t then is_memory_kind (header b h).kind else list_any (λ k. (header b h).kind == k) (progbits ∷ note ∷ arm_attributes ∷ [])) m ∙ memory
+              let memory : is_memory_kind (header b h).kind ≡ true = true_from_ne_false _ (λ n. kinds h _ (memory_kind h i m n (inr stays))) in
+              ap (λ (t : Bool). if t then is_memory_kind (header b h).kind else list_any (λ k. (header b h).kind == k) (progbits ∷ note ∷ arm_attributes ∷ [])) m ∙ memory
           | inr y ↦ y
         ];
       }
 
   section_bytes : (h : ℕ) → IsHeader b h → has_bytes (section_of b h) ≡ true
   section_bytes h i = elim (cases_eq (header b h).kind nobits) [
-      | inl e ↦ ap (λ (t : Bool). length (if t then [] else contents b h) == (if t then 0 else (header b h).size)) (eq-eqb (header b h).kind nobits e)
-      | inr n ↦ ap (λ (t : Bool). length (if t then [] else contents b h) == (if t then 0 else (header b h).size)) (ne_eqb (header b h).kind nobits n) ∙ eq-eqb (length (contents b h)) (header b h).size (whole b h tabled i n)
-    ]
+    | inl e ↦ ap (λ (t : Bool). length (if t then [] else contents b h) == (if t then 0 else (header b h).size)) (eq-eqb (header b h).kind nobits e)
+    | inr n ↦ ap (λ (t : Bool). length (if t then [] else contents b h) == (if t then 0 else (header b h).size)) (ne_eqb (header b h).kind nobits n) ∙ eq-eqb (length (contents b h)) (header b h).size (whole b h tabled i n)
+  ]
 
   pub section_good : (h : ℕ) → IsHeader b h → is_kept b h ≡ true → is_section (section_of b h) ≡ true
   section_good h i k =

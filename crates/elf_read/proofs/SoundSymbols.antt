@@ -1,10 +1,10 @@
 -- In a file without faults of its symbols every symbol is sound.
-use Rattle.std.proofs.Common.{◌≡◌, ◌≢◌, ◌<◌, ◌≤◌, ◌⊎◌, ℕ, ◌+◌, ◌/◌, ◌%◌, false, List, inl, inr, arith}
-use Rattle.std.proofs.lemmas.Bool.{cases_lt, cases_eq}
+use Rattle.std.proofs.Common.{◌≡◌, ◌<◌, ℕ, ◌+◌, false, List, inl, inr}
+use Rattle.std.proofs.lemmas.Bool.{cases_lt}
 use Rattle.elf_model.specs.declared.refusals.Limit.{Limit}
 use Rattle.elf_model.specs.declared.refusals.Refusal.TheVariants.{BadSymbol}
-use Rattle.elf_model.specs.Fields.{byte_at, half_at, word_at}
-use Rattle.elf_model.specs.Files.{header_count, header}
+use Rattle.elf_model.specs.Fields.{half_at}
+use Rattle.elf_model.specs.Files.{header_count}
 use Rattle.elf_read.specs.Faults.{Fault, IsSymbolAt, names_no_section}
 use Rattle.elf_read.specs.Faults.Fault.{other_binding, other_symbol_type, late_local, bad_index, bad_value}
 use Rattle.elf_read.specs.SymbolFaults.{AreSymbols}

@@ -1,10 +1,10 @@
 -- The symbol table of a file.
-use Rattle.std.proofs.Common.{◌≡◌, ◌≢◌, ◌<◌, ◌≤◌, ◌⊎◌, ℕ, zero, suc, ◌+◌, ◌-◌, ◌*◌, ◌/◌, Bool, true, false, List, [], ◌∷◌, length, Option, Some, None, inl, inr, arith, refl, sym, ◌∙◌, ap, subst, cond, eqb}
+use Rattle.std.proofs.Common.{◌≡◌, ◌≢◌, ◌<◌, ◌≤◌, ℕ, zero, suc, ◌+◌, ◌-◌, ◌*◌, ◌/◌, Bool, true, List, length, Option, Some, None, inl, inr, arith, refl, sym, ◌∙◌, ap, subst, cond}
 use Rattle.std.specs.Prelude.{find, ◌==◌}
 use Rattle.std.proofs.lemmas.Bool.{false≢true, cases_eq, cases_Bool, eqb-true, eq-eqb}
-use Rattle.elf_model.specs.Constants.{symtab, strtab, nobits}
-use Rattle.elf_model.specs.Files.{from, header_count, header, headers, IsKind, symbol_table}
-use Rattle.elf_read.specs.Faults.{IsHeader, IsSymbolAt}
+use Rattle.elf_model.specs.Constants.{symtab, nobits}
+use Rattle.elf_model.specs.Files.{from, header_count, header, IsKind, symbol_table}
+use Rattle.elf_read.specs.Faults.{IsSymbolAt}
 use Rattle.elf_read.specs.HeaderFaults.{IsTabled}
 use Rattle.elf_read.specs.Headers.{HasHeaders}
 

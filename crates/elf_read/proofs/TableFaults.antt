@@ -1,12 +1,11 @@
 -- The faults of the table of section headers, and the tests that find them.
-use Rattle.std.proofs.Common.{◌≡◌, ◌≢◌, ◌<◌, ◌≤◌, ◌⊎◌, ℕ, zero, suc, ◌+◌, ◌*◌, ◌/◌, ◌%◌, ◌^◌, List, [], ◌∷◌, length, Option, Some, None, inl, inr, arith, refl, sym, ◌∙◌, ap, subst, Bool, true, false, not, ◌&&◌, ◌||◌, eqb, ltb, leb}
-use Rattle.std.proofs.lemmas.Bool.{false≢true, and_parts, and_from, or_cases, or_left, or_right, eqb-true, eq-eqb, ne_eqb, ltb-true, lt-ltb, not-true, not_from_false, false_from_ne_true, cases_Bool, cases_lt, cases_eq, eqb-false}
+use Rattle.std.proofs.Common.{◌≡◌, ◌<◌, ◌≤◌, ◌⊎◌, ℕ, zero, suc, ◌+◌, ◌*◌, ◌%◌, List, length, Option, Some, None, inl, inr, arith, refl, sym, ◌∙◌, ap, subst, Bool, true, false, not, ◌&&◌, ◌||◌, eqb}
+use Rattle.std.proofs.lemmas.Bool.{false≢true, and_parts, and_from, or_cases, or_left, or_right, eqb-true, eq-eqb, ltb-true, lt-ltb, not-true, not_from_false, false_from_ne_true, cases_lt, cases_eq}
 use Rattle.elf_model.specs.declared.refusals.Limit.{Limit}
 use Rattle.elf_model.specs.declared.refusals.Refusal.TheVariants.{BadTable}
-use Rattle.elf_model.specs.Constants.{symtab, strtab, rel, nobits}
-use Rattle.elf_model.specs.Fields.{half_at, word_at}
-use Rattle.elf_model.specs.Objects.{is_alignment}
-use Rattle.elf_model.specs.Files.{Header, header_count, header_place, header, IsKind, is_table}
+use Rattle.elf_model.specs.Constants.{symtab, strtab, rel}
+use Rattle.elf_model.specs.Fields.{word_at}
+use Rattle.elf_model.specs.Files.{Header, header_count, header_place, header, IsKind}
 use Rattle.elf_read.specs.Faults.{Fault, IsHeader, IsTarget}
 use Rattle.elf_read.specs.Faults.Fault.{headers_outside, other_header_size, no_name_table, second_symtab, outside, uneven_symtab, uneven_rel, symtab_link, rel_link, rel_target, bad_alignment, symtab_entry, rel_entry}
 use Rattle.elf_read.specs.HeaderFaults.{has_kind, is_target, is_outside, is_uneven, is_mislinked, is_astray, is_misaligned, is_missized, table_tests, header_tests}

@@ -1,15 +1,13 @@
 -- A file without faults of its headers has sound tables.
-use Rattle.std.proofs.Common.{◌≡◌, ◌≢◌, ◌<◌, ◌≤◌, ◌⊎◌, ℕ, ◌+◌, ◌*◌, ◌%◌, List, length, inl, inr, arith, refl, sym, ◌∙◌, true, false}
+use Rattle.std.proofs.Common.{◌≡◌, ◌≢◌, ◌<◌, ◌≤◌, ℕ, List, length, inl, inr, sym, ◌∙◌}
 use Rattle.std.proofs.lemmas.Bool.{false≢true, cases_lt, cases_eq, cases_Bool, cases_order}
 use Rattle.elf_model.specs.declared.refusals.Limit.{Limit}
 use Rattle.elf_model.specs.declared.refusals.Refusal.TheVariants.{BadTable}
-use Rattle.elf_model.specs.Constants.{symtab, strtab, rel, nobits}
-use Rattle.elf_model.specs.Fields.{half_at, word_at}
-use Rattle.elf_model.specs.Files.{header_count, header, IsKind}
-use Rattle.elf_read.specs.Faults.{Fault, IsHeader, IsTarget}
-use Rattle.elf_read.specs.Faults.Fault.{headers_outside, other_header_size, no_name_table, second_symtab, outside, uneven_symtab, uneven_rel, symtab_link, rel_link, rel_target, bad_alignment, symtab_entry, rel_entry}
+use Rattle.elf_model.specs.Constants.{symtab, strtab}
+use Rattle.elf_model.specs.Files.{IsKind}
+use Rattle.elf_read.specs.Faults.{Fault, IsTarget}
+use Rattle.elf_read.specs.Faults.Fault.{headers_outside, no_name_table, second_symtab, outside, uneven_symtab, uneven_rel, symtab_link, rel_link, rel_target, symtab_entry, rel_entry}
 use Rattle.elf_read.specs.HeaderFaults.{has_kind, is_target, IsTabled}
-use Rattle.elf_read.specs.Headers.{HasHeaders}
 use Rattle.elf_read.proofs.TableFaults.{kind_there, there_kind, target_there, there_target}
 
 kind_stable : (b : List ℕ) (h kind : ℕ) → ((IsKind b h kind → ⊥) → ⊥) → IsKind b h kind

@@ -1,5 +1,5 @@
 -- Texts of string tables.
-use Rattle.std.proofs.Common.{◌≡◌, ◌≢◌, ◌<◌, ◌≤◌, ℕ, ◌+◌, ◌-◌, List, length, get_or, take, drop, Option, Some, None, eqb, refl, sym, ap, ◌∙◌, arith, true, false, subst}
+use Rattle.std.proofs.Common.{◌≡◌, ◌≢◌, ◌<◌, ℕ, List, length, take, drop, Option, Some, None, refl, sym, ap, ◌∙◌, arith, subst}
 use Rattle.std.specs.Prelude.{◌==◌, ◌↔◌, IsTrue}
 use Rattle.std.specs.Option.{is_some}
 use Rattle.std.specs.List.{before_first, position_or_len}

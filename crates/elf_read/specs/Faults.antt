@@ -1,14 +1,14 @@
 -- Each fault of a file, with its place: the number of a section header, and the offset of a field in the file.
-use Rattle.std.specs.Prelude.{◌≡◌, ◌≢◌, ◌<◌, ◌≤◌, ◌⊎◌, ℕ, ◌+◌, ◌-◌, ◌*◌, ◌/◌, ◌%◌, ◌^◌, ◌==◌, ◌&&◌, ◌||◌, not, Bool, true, false, List, [], ◌∷◌, length, take, filter, sum_by, IsTrue, if◌then◌else◌}
+use Rattle.std.specs.Prelude.{◌≡◌, ◌≢◌, ◌<◌, ◌≤◌, ◌⊎◌, ℕ, ◌+◌, ◌-◌, ◌*◌, ◌/◌, ◌%◌, ◌^◌, ◌==◌, ◌&&◌, ◌||◌, not, Bool, true, false, List, [], ◌∷◌, length, take, filter, sum_by, if◌then◌else◌}
 use Rattle.std.specs.List.{list_any}
 use Rattle.elf_model.specs.declared.refusals.Refusal.{Refusal}
 use Rattle.elf_model.specs.declared.refusals.Refusal.TheVariants.{NotElf, NotArmRel, BadTable, BadName, BadSymbol, BadReloc, TooMany, SectionKind}
 use Rattle.elf_model.specs.declared.refusals.Limit.{Limit}
 use Rattle.elf_model.specs.declared.refusals.Spot.{Spot}
-use Rattle.elf_model.specs.Constants.{progbits, symtab, strtab, rel, rela, nobits, group, symtab_shndx, arm_exidx, init_array, fini_array, undefined_index, absolute_index, local, func}
+use Rattle.elf_model.specs.Constants.{progbits, symtab, strtab, rel, nobits, init_array, fini_array, undefined_index, absolute_index, local, func}
 use Rattle.elf_model.specs.Refusals.{number_of}
 use Rattle.elf_model.specs.Fields.{byte_at, half_at, word_at, same_name}
-use Rattle.elf_model.specs.Objects.{is_alloc, is_writable, is_exec, is_alignment, is_dropped_name, is_kept_kind}
+use Rattle.elf_model.specs.Objects.{is_alloc, is_writable, is_exec, is_alignment}
 use Rattle.elf_model.specs.Files.{from, header_count, header_place, header, headers, IsKind, EndsAt, section_name, is_table, is_refused_kind, is_dropped, is_kept}
 use Rattle.elf_model.specs.Maps.{map_name}
 

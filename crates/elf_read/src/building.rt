@@ -12,9 +12,9 @@ ghost use Rattle.elf_read.specs.RelocFaults.{pair_cmp};
 
 use crate::headers::{count, half, header_at, word};
 use crate::keeping::{is_kept_symbol, kept_at, section_name, text_at};
+use crate::limits::is_kept_relocs;
 use crate::names::symtab_of;
 use crate::strings::contents;
-use crate::limits::is_kept_relocs;
 use crate::tables::NOBITS;
 use elf_model::{Bytes, Home, Name, Reloc, RelocKind, Section, Symbol};
 use std::alloc::{AllocError, Global};
@@ -207,7 +207,16 @@ pub(crate) fn symbols(
     };
     let header = header_at(bytes, t);
     let n = header.size as usize / 16;
-    push_symbols(alloc, bytes, t, header.offset as usize, n, kept, numbers, &mut symbols)?;
+    push_symbols(
+        alloc,
+        bytes,
+        t,
+        header.offset as usize,
+        n,
+        kept,
+        numbers,
+        &mut symbols,
+    )?;
     Ok(symbols)
 }
 

@@ -10,9 +10,9 @@ ghost use Rattle.elf_read.specs.HeaderFaults.{IsTabled};
 ghost use Rattle.elf_read.specs.Faults.{IsHeader};
 
 use crate::headers::{count, half, header_at};
+use crate::kinds::{ARM_EXIDX, is_alloc, is_dropped_name, is_kept_kind, is_refused_kind, is_table};
 use crate::names::symtab_of;
 use crate::strings::contents;
-use crate::kinds::{ARM_EXIDX, is_alloc, is_dropped_name, is_kept_kind, is_refused_kind, is_table};
 use std::alloc::{AllocError, Global};
 
 /// The text up to a NUL, or all of it where there is none.
@@ -31,7 +31,11 @@ fn until_nul(text: &[u8]) -> &[u8]
 fn behind(text: &[u8], at: usize) -> &[u8]
     ensures { result.now ≡ drop at text.now }
 {
-    if at <= text.len() { &text[at..] } else { &text[text.len()..] }
+    if at <= text.len() {
+        &text[at..]
+    } else {
+        &text[text.len()..]
+    }
 }
 
 /// The text at an offset of a string table, up to its NUL or to the table's end.
@@ -50,7 +54,11 @@ pub(crate) fn section_name(bytes: &[u8], h: usize) -> &[u8]
     requires listed { h < header_count bytes.now }
     ensures { result.now ≡ section_name bytes.now h }
 {
-    text_at(bytes, half(bytes, 50) as usize, header_at(bytes, h).name as usize)
+    text_at(
+        bytes,
+        half(bytes, 50) as usize,
+        header_at(bytes, h).name as usize,
+    )
 }
 
 /// Whether a section is left out, with its symbols and relocations.

@@ -19,11 +19,11 @@ mod reloc_faults;
 mod strings;
 mod symbols;
 mod tables;
+#[cfg(test)]
+mod tests;
 mod unfit;
 mod unhandled;
 mod whole;
-#[cfg(test)]
-mod tests;
 
 use elf_model::{Deny, Limit, Object};
 use keeping::{kept_flags, symbol_flags};

@@ -1,4 +1,4 @@
-use Rattle.std.proofs.Common.{◌≡◌, ◌+◌, ◌<◌, arith, sym, ◌∙◌}
+use Rattle.std.proofs.Common.{◌+◌, arith, ◌∙◌}
 use Rattle.elf_model.specs.declared.refusals.Refusal.TheVariants.{NotArmRel}
 use Rattle.elf_read.specs.Faults.{Fault}
 use Rattle.elf_read.specs.Faults.Fault.{other_class, other_order, other_type, other_machine, other_version}

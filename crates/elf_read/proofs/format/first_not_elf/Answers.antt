@@ -1,4 +1,4 @@
-use Rattle.std.proofs.Common.{◌≡◌, ◌<◌, inl, inr, rules, arith, sym, ◌∙◌}
+use Rattle.std.proofs.Common.{inl, inr, rules, arith, sym, ◌∙◌}
 use Rattle.elf_read.proofs.Formats.{elf_faultless, no_elf, elf_lowest}
 use Rattle.std.proofs.lemmas.Bool.{false≢true}
 use Rattle.elf_read.proofs.format.first_not_elf.Goals as goal

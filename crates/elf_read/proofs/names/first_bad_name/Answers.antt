@@ -1,4 +1,4 @@
-use Rattle.std.proofs.Common.{◌≡◌, sym, ◌∙◌, subst, Option}
+use Rattle.std.proofs.Common.{sym, subst, Option}
 use Rattle.elf_model.specs.declared.refusals.Refusal.TheVariants.{BadName}
 use Rattle.elf_read.specs.declared.places.Place.{Place}
 use Rattle.elf_read.specs.Faults.{Fault}

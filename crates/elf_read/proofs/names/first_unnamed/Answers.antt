@@ -1,8 +1,7 @@
-use Rattle.std.proofs.Common.{◌≡◌, ◌≢◌, ◌<◌, ◌+◌, ℕ, ap, sym, ◌∙◌, arith, subst, true, false, Bool}
-use Rattle.std.proofs.lemmas.Bool.{false≢true}
+use Rattle.std.proofs.Common.{◌≡◌, ◌≢◌, ap, sym, ◌∙◌, arith}
 use Rattle.elf_model.specs.Constants.{rel}
 use Rattle.elf_model.specs.Fields.{half_at}
-use Rattle.elf_model.specs.Files.{header, EndsAt}
+use Rattle.elf_model.specs.Files.{header}
 use Rattle.elf_read.specs.Faults.{IsHeader}
 use Rattle.elf_read.proofs.NameFaults.{named_more, first_section, ends_by, endless_by}
 use Rattle.elf_read.proofs.names.first_unnamed.Goals as goal

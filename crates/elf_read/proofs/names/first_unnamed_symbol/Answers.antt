@@ -1,10 +1,9 @@
-use Rattle.std.proofs.Common.{◌≡◌, ◌≢◌, ◌<◌, ◌≤◌, ◌+◌, ◌*◌, ◌/◌, ℕ, length, Some, None, ap, sym, ◌∙◌, arith, subst, true, false}
+use Rattle.std.proofs.Common.{◌≡◌, ◌<◌, ◌≤◌, ◌+◌, ◌*◌, ◌/◌, ℕ, ap, sym, ◌∙◌, arith, subst}
 use Rattle.elf_model.specs.Constants.{symtab, strtab}
 use Rattle.elf_model.specs.Fields.{word_at}
-use Rattle.elf_model.specs.Files.{header, header_count, symbol_table, IsKind, EndsAt}
-use Rattle.elf_read.specs.Faults.{IsHeader}
+use Rattle.elf_model.specs.Files.{header, IsKind}
 use Rattle.elf_read.proofs.SymbolTable.{table_kind, table_none, symbol_inside, some_headers}
-use Rattle.elf_read.proofs.NameFaults.{SymbolsNamed, symbols_more, first_symbol, all_symbols, ends_by, endless_by}
+use Rattle.elf_read.proofs.NameFaults.{symbols_more, first_symbol, all_symbols, ends_by, endless_by}
 use Rattle.elf_read.proofs.names.first_unnamed_symbol.Goals as goal
 
 pub returns-in_default : goal.returns-in_default

@@ -1,5 +1,4 @@
-use Rattle.std.proofs.Common.{◌≡◌, ◌<◌, ◌+◌, ℕ, ap, sym, ◌∙◌, arith, inl, inr, subst}
-use Rattle.std.proofs.lemmas.Bool.{cases_eq}
+use Rattle.std.proofs.Common.{◌≡◌, ap, sym, ◌∙◌, arith}
 use Rattle.elf_model.specs.Files.{header, IsKind}
 use Rattle.elf_model.specs.Constants.{symtab}
 use Rattle.elf_read.proofs.SymbolTable.{table_is, no_table, no_table_more}

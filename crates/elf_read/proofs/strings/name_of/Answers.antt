@@ -1,4 +1,4 @@
-use Rattle.std.proofs.Common.{◌≡◌, ◌+◌, ◌-◌, sym, subst, arith, ℕ, Option, Some, None}
+use Rattle.std.proofs.Common.{subst, arith}
 use Rattle.elf_read.specs.Texts.{IsText, HasNoText, IsTextOrNone}
 use Rattle.elf_read.proofs.Texts.{text_read, text_there}
 use Rattle.elf_read.proofs.strings.name_of.Goals as goal

@@ -1,10 +1,10 @@
-use Rattle.std.proofs.Common.{◌≡◌, ◌<◌, ◌≤◌, ◌+◌, ◌*◌, ◌/◌, ◌||◌, ℕ, Bool, not, eqb, length, get_or, Some, None, ap, sym, refl, ◌∙◌, arith, subst}
+use Rattle.std.proofs.Common.{◌≡◌, ◌<◌, ◌≤◌, ◌+◌, ◌*◌, ◌/◌, ◌||◌, ℕ, Bool, not, eqb, Some, None, ap, sym, ◌∙◌, arith, subst}
 use Rattle.elf_model.specs.Constants.{symtab, local}
 use Rattle.elf_model.specs.Fields.{byte_at}
 use Rattle.elf_model.specs.Files.{header, IsKind}
 use Rattle.elf_read.specs.Places.{first_of}
 use Rattle.elf_read.proofs.SymbolTable.{table_kind, table_none, symbol_inside, some_headers}
-use Rattle.elf_read.proofs.BadSymbols.{others_below, tests_of, place_in, bind_at, others_more, small_field, sound_more, all_sound, first_symbol, no_symbols, same_tests}
+use Rattle.elf_read.proofs.BadSymbols.{tests_of, place_in, bind_at, others_more, small_field, sound_more, all_sound, first_symbol, no_symbols, same_tests}
 use Rattle.elf_read.proofs.symbols.first_bad_symbol.Goals as goal
 use Rattle.elf_read.proofs.symbols.first_bad_symbol.Goals.{then-seen, else-seen}
 

@@ -1,12 +1,12 @@
-use Rattle.std.proofs.Common.{◌≡◌, ◌+◌, ◌<◌, ◌≤◌, ◌*◌, ◌||◌, ℕ, Bool, Some, None, eqb, length, refl, sym, ◌∙◌, ap, subst, arith}
+use Rattle.std.proofs.Common.{◌≡◌, ◌+◌, ◌≤◌, ◌*◌, ◌||◌, Bool, Some, None, eqb, length, refl, sym, ◌∙◌, ap, arith}
 use Rattle.elf_model.specs.Constants.{symtab}
 use Rattle.elf_model.specs.Fields.{word_at}
-use Rattle.elf_model.specs.Files.{header, header_count, header_place}
+use Rattle.elf_model.specs.Files.{header, header_count}
 use Rattle.elf_read.specs.Faults.{IsHeader}
 use Rattle.elf_read.specs.Headers.{fields_of}
 use Rattle.elf_read.specs.HeaderFaults.{table_tests}
 use Rattle.elf_read.specs.Places.{first_of}
-use Rattle.elf_read.proofs.TableFaults.{symtab_below, tests_of, none_at_all, none_first, none_more, listed_here, same_tests, small_field, first_in_file, first_in_header, seen_step}
+use Rattle.elf_read.proofs.TableFaults.{tests_of, none_at_all, none_first, none_more, listed_here, same_tests, small_field, first_in_file, first_in_header, seen_step}
 use Rattle.elf_read.proofs.tables.first_bad_table.Goals as goal
 use Rattle.elf_read.proofs.tables.first_bad_table.Goals.{then-seen, else-seen}
 
