@@ -4,8 +4,8 @@ mod FieldsRead
 mod Laid
 mod FileRead
 mod Strings
-mod Lists
-mod Sections
+pub mod Lists
+pub mod Sections
 mod Written
 mod Headers
 mod Kept

@@ -3,12 +3,34 @@
 
 ghost use Rattle.std.specs.Prelude.{◌≡◌, ◌<◌, ◌^◌, length, IfOk, IfErr, OnOk};
 ghost use Rattle.elf_model.specs.Files.{StandsFor};
-ghost use Rattle.elf_read.specs.Faults.{IsFaultless, IsDeniedFor, dropped_count};
+ghost use Rattle.elf_read.specs.Faults.{IsFaultless, dropped_count};
+ghost use Rattle.elf_read.specs.FirstFaults.{IsDeniedFor};
 
+mod building;
+mod format;
 mod headers;
+mod keeping;
+mod kinds;
+mod limits;
+mod malformed;
+mod names;
+mod places;
+mod reloc_faults;
+mod strings;
+mod symbols;
+mod tables;
+#[cfg(test)]
+mod tests;
+mod unfit;
+mod unhandled;
+mod whole;
 
 use elf_model::{Deny, Limit, Object};
+use keeping::{kept_flags, symbol_flags};
+use malformed::first_malformed;
 use std::alloc::Global;
+use unfit::first_unfit;
+use whole::read_whole;
 
 /// An object that was read, and how many sections were left out: those of debug information and of
 /// unwind tables, and others that no linked program has.
@@ -18,13 +40,22 @@ pub struct Read {
     pub dropped: u32,
 }
 
-/// The object that the bytes stand for, or the first fault that they have.
-pub fn read_object(_alloc: Global, bytes: &[u8], limit: &Limit) -> Result<Read, Deny>
+/// The object that the bytes stand for, or the first fault of the file: its lowest number, then the
+/// lowest section, then the lowest offset.
+pub fn read_object(alloc: Global, bytes: &[u8], limit: &Limit) -> Result<Read, Deny>
     requires { length bytes.now < 2 ^ 32 }
     ensures object { IfOk result (λ read. StandsFor bytes.now read.object) }
     ensures faultless { OnOk result (IsFaultless bytes.now limit.now) }
     ensures dropped { IfOk result (λ read. read.dropped ≡ dropped_count bytes.now) }
     ensures refused { IfErr result (IsDeniedFor bytes.now limit.now) }
 {
-    Err(Deny::NoMemory)
+    if let Some(spot) = first_malformed(bytes) {
+        return Err(Deny::Refused(spot));
+    }
+    let kept = kept_flags(alloc, bytes)?;
+    let symbols = symbol_flags(alloc, bytes, &kept)?;
+    if let Some(spot) = first_unfit(alloc, bytes, &kept, &symbols, limit)? {
+        return Err(Deny::Refused(spot));
+    }
+    Ok(read_whole(alloc, bytes, &kept, &symbols, limit)?)
 }
