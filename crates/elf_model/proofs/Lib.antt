@@ -13,5 +13,5 @@ pub mod Symbols
 pub mod Sorted
 pub mod Relocs
 mod Tables
-mod OneObject
+pub mod OneObject
 pub mod Stands

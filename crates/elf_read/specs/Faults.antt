@@ -1,14 +1,14 @@
 -- Each fault of a file, with its place: the number of a section header, and the offset of a field in the file.
-use Rattle.std.specs.Prelude.{◌≡◌, ◌≢◌, ◌<◌, ◌≤◌, ◌⊎◌, ℕ, ◌+◌, ◌-◌, ◌*◌, ◌/◌, ◌%◌, ◌^◌, ◌==◌, ◌&&◌, ◌||◌, not, Bool, true, false, List, [], ◌∷◌, length, take, filter, sum_by, IsTrue, if◌then◌else◌}
+use Rattle.std.specs.Prelude.{◌≡◌, ◌≢◌, ◌<◌, ◌≤◌, ◌⊎◌, ℕ, ◌+◌, ◌-◌, ◌*◌, ◌/◌, ◌%◌, ◌^◌, ◌==◌, ◌&&◌, ◌||◌, not, Bool, true, false, List, [], ◌∷◌, length, take, filter, sum_by, if◌then◌else◌}
 use Rattle.std.specs.List.{list_any}
 use Rattle.elf_model.specs.declared.refusals.Refusal.{Refusal}
 use Rattle.elf_model.specs.declared.refusals.Refusal.TheVariants.{NotElf, NotArmRel, BadTable, BadName, BadSymbol, BadReloc, TooMany, SectionKind}
 use Rattle.elf_model.specs.declared.refusals.Limit.{Limit}
 use Rattle.elf_model.specs.declared.refusals.Spot.{Spot}
-use Rattle.elf_model.specs.Constants.{progbits, symtab, strtab, rel, rela, nobits, group, symtab_shndx, arm_exidx, init_array, fini_array, undefined_index, absolute_index, local, func}
+use Rattle.elf_model.specs.Constants.{progbits, symtab, strtab, rel, nobits, init_array, fini_array, undefined_index, absolute_index, local, func}
 use Rattle.elf_model.specs.Refusals.{number_of}
 use Rattle.elf_model.specs.Fields.{byte_at, half_at, word_at, same_name}
-use Rattle.elf_model.specs.Objects.{is_alloc, is_writable, is_exec, is_alignment, is_dropped_name, is_kept_kind}
+use Rattle.elf_model.specs.Objects.{is_alloc, is_writable, is_exec, is_alignment}
 use Rattle.elf_model.specs.Files.{from, header_count, header_place, header, headers, IsKind, EndsAt, section_name, is_table, is_refused_kind, is_dropped, is_kept}
 use Rattle.elf_model.specs.Maps.{map_name}
 
@@ -143,3 +143,7 @@ IsFaultless b l = (r : Refusal) (section offset : ℕ) → Fault b l r section o
 -- how many sections are left out
 abbrev pub dropped_count : List ℕ → ℕ
 dropped_count b = length (filter (λ h. not (is_table (header b h).kind) && is_dropped b h) (headers b))
+
+-- no fault with a number below n
+abbrev pub IsFaultlessBelow : List ℕ → Limit → ℕ → Type 0
+IsFaultlessBelow b l n = (r : Refusal) (section offset : ℕ) → number_of r < n → Fault b l r section offset → ⊥

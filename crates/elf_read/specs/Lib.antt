@@ -1,4 +1,10 @@
-pub mod FirstForm
-pub mod FirstFile
+pub mod Formats
 pub mod Faults
 pub mod Headers
+pub mod Keeping
+pub mod Places
+pub mod HeaderFaults
+pub mod RelocFaults
+pub mod Texts
+pub mod SymbolFaults
+pub mod FirstFaults

@@ -40,7 +40,8 @@ pub(crate) fn word(bytes: &[u8], at: usize) -> u32
 /// How many section headers the file has, the null header with them.
 pub(crate) fn count(bytes: &[u8]) -> usize
     requires { 52 ≤ length bytes.now }
-    ensures { result ≡ header_count bytes.now }
+    ensures number { result ≡ header_count bytes.now }
+    ensures small { result < 65536 }
 {
     half(bytes, 48) as usize
 }

@@ -1,21 +1,36 @@
 //! Reads objects from the bytes of relocatable files.
 #![tactic(auto)]
 
-ghost use Rattle.std.specs.Prelude.{◌≡◌, ◌<◌, ◌^◌, ℕ, length, IfOk, IfErr};
-ghost use Rattle.elf_model.specs.Canonical.{canonical};
+ghost use Rattle.std.specs.Prelude.{◌≡◌, ◌<◌, ◌^◌, length, IfOk, IfErr, OnOk};
 ghost use Rattle.elf_model.specs.Files.{StandsFor};
-ghost use Rattle.elf_read.specs.FirstForm.{IsFirstObject, IsDenied, at_start};
+ghost use Rattle.elf_read.specs.Faults.{IsFaultless, dropped_count};
+ghost use Rattle.elf_read.specs.FirstFaults.{IsDeniedFor};
 
-mod file;
-mod form;
+mod building;
+mod format;
 mod headers;
+mod keeping;
+mod kinds;
+mod limits;
+mod malformed;
+mod names;
+mod places;
+mod reloc_faults;
+mod strings;
+mod symbols;
+mod tables;
 #[cfg(test)]
 mod tests;
+mod unfit;
+mod unhandled;
+mod whole;
 
-use elf_model::{Deny, Limit, Object, Refusal, Spot};
-use file::{first_file, first_object};
-use form::{code_of, is_elf};
+use elf_model::{Deny, Limit, Object};
+use keeping::{kept_flags, symbol_flags};
+use malformed::first_malformed;
 use std::alloc::Global;
+use unfit::first_unfit;
+use whole::read_whole;
 
 /// An object that was read, and how many sections were left out: those of debug information and of
 /// unwind tables, and others that no linked program has.
@@ -25,37 +40,22 @@ pub struct Read {
     pub dropped: u32,
 }
 
-fn refused(refusal: Refusal) -> Deny
-    ensures { result ≡ Deny.Refused (at_start refusal) }
-{
-    Deny::Refused(Spot {
-        refusal,
-        file: 0,
-        section: 0,
-        offset: 0,
-    })
-}
-
-/// The object that the bytes stand for. So far a file is read if it has the first form: one code
-/// section with one function of moves that returns.
-pub fn read_object(alloc: Global, bytes: &[u8], _limit: &Limit) -> Result<Read, Deny>
+/// The object that the bytes stand for, or the first fault of the file: its lowest number, then the
+/// lowest section, then the lowest offset.
+pub fn read_object(alloc: Global, bytes: &[u8], limit: &Limit) -> Result<Read, Deny>
     requires { length bytes.now < 2 ^ 32 }
     ensures object { IfOk result (λ read. StandsFor bytes.now read.object) }
-    ensures file { IfOk result (λ read. bytes.now ≡ canonical read.object) }
-    ensures form { IfOk result (λ read. IsFirstObject read.object) }
-    ensures dropped { IfOk result (λ read. read.dropped ≡ 0) }
-    ensures refused { IfErr result (IsDenied bytes.now) }
+    ensures faultless { OnOk result (IsFaultless bytes.now limit.now) }
+    ensures dropped { IfOk result (λ read. read.dropped ≡ dropped_count bytes.now) }
+    ensures refused { IfErr result (IsDeniedFor bytes.now limit.now) }
 {
-    if !is_elf(bytes) {
-        return Err(refused(Refusal::NotElf));
+    if let Some(spot) = first_malformed(bytes) {
+        return Err(Deny::Refused(spot));
     }
-    let Some(code) = code_of(bytes) else {
-        return Err(refused(Refusal::NotYet));
-    };
-    let file = first_file(alloc, code)?;
-    if file.as_slice() != bytes {
-        return Err(refused(Refusal::NotYet));
+    let kept = kept_flags(alloc, bytes)?;
+    let symbols = symbol_flags(alloc, bytes, &kept)?;
+    if let Some(spot) = first_unfit(alloc, bytes, &kept, &symbols, limit)? {
+        return Err(Deny::Refused(spot));
     }
-    let object = first_object(alloc, code)?;
-    Ok(Read { object, dropped: 0 })
+    Ok(read_whole(alloc, bytes, &kept, &symbols, limit)?)
 }

@@ -1,7 +1,9 @@
 use super::*;
+use elf_model::{Refusal, Reloc, RelocKind, Spot};
+use std::alloc::AllocError;
 
 /// A file of the first form, with the code `movs r0, #5; bx lr`.
-const FILE: [u8; 344] = [
+pub(crate) const FILE: [u8; 344] = [
     127, 69, 76, 70, 1, 1, 1, 0, 0, 0, 0, 0, 0, 0, 0, 0, 1, 0, 40, 0, 1, 0, 0, 0, 0, 0, 0, 0, 0, 0,
     0, 0, 144, 0, 0, 0, 0, 0, 0, 5, 52, 0, 0, 0, 0, 0, 40, 0, 5, 0, 4, 0, 5, 32, 112, 71, 0, 0, 0,
     0, 0, 0, 0, 0, 0, 0, 0, 0, 0, 0, 0, 0, 1, 0, 0, 0, 0, 0, 0, 0, 0, 0, 0, 0, 0, 0, 1, 0, 4, 0, 0,
@@ -16,6 +18,63 @@ const FILE: [u8; 344] = [
     33, 0, 0, 0, 0, 0, 0, 0, 0, 0, 0, 0, 1, 0, 0, 0, 0, 0, 0, 0,
 ];
 
+/// A file as a compiler writes it: MOVW and MOVT of `x`, a word of `f`, and debug information.
+const COMPILED: [u8; 1020] = [
+    127, 69, 76, 70, 1, 1, 1, 0, 0, 0, 0, 0, 0, 0, 0, 0, 1, 0, 40, 0, 1, 0, 0, 0, 0, 0, 0, 0, 0, 0,
+    0, 0, 124, 1, 0, 0, 0, 0, 0, 5, 52, 0, 0, 0, 0, 0, 40, 0, 16, 0, 15, 0, 64, 242, 0, 3, 192,
+    242, 0, 3, 24, 104, 112, 71, 0, 0, 0, 0, 47, 4, 0, 0, 4, 0, 0, 0, 48, 4, 0, 0, 7, 0, 0, 0, 0,
+    0, 0, 0, 0, 0, 0, 0, 2, 3, 0, 0, 99, 99, 0, 65, 5, 0, 0, 0, 0, 0, 0, 0, 0, 0, 0, 0, 0, 0, 0, 0,
+    2, 2, 0, 0, 0, 0, 0, 0, 0, 0, 0, 0, 2, 2, 0, 0, 0, 0, 0, 0, 0, 0, 0, 0, 0, 0, 0, 0, 0, 0, 0, 0,
+    1, 0, 0, 0, 0, 0, 0, 0, 0, 0, 0, 0, 0, 0, 1, 0, 0, 0, 0, 0, 0, 0, 0, 0, 0, 0, 0, 0, 3, 0, 9, 0,
+    7, 0, 0, 0, 1, 0, 0, 0, 12, 0, 0, 0, 18, 0, 1, 0, 9, 0, 0, 0, 0, 0, 0, 0, 4, 0, 0, 0, 17, 0, 3,
+    0, 0, 36, 116, 0, 36, 100, 0, 102, 0, 120, 0, 0, 46, 116, 101, 120, 116, 0, 46, 114, 101, 108,
+    46, 116, 101, 120, 116, 0, 46, 100, 97, 116, 97, 0, 46, 114, 111, 100, 97, 116, 97, 0, 46, 114,
+    101, 108, 46, 114, 111, 100, 97, 116, 97, 0, 46, 98, 115, 115, 0, 46, 99, 111, 109, 109, 101,
+    110, 116, 0, 46, 65, 82, 77, 46, 97, 116, 116, 114, 105, 98, 117, 116, 101, 115, 0, 46, 100,
+    101, 98, 117, 103, 95, 105, 110, 102, 111, 0, 46, 114, 101, 108, 46, 100, 101, 98, 117, 103,
+    95, 105, 110, 102, 111, 0, 46, 100, 101, 98, 117, 103, 95, 108, 105, 110, 101, 0, 46, 114, 101,
+    108, 46, 100, 101, 98, 117, 103, 95, 108, 105, 110, 101, 0, 46, 115, 121, 109, 116, 97, 98, 0,
+    46, 115, 116, 114, 116, 97, 98, 0, 46, 115, 104, 115, 116, 114, 116, 97, 98, 0, 0, 0, 0, 0, 0,
+    0, 0, 0, 0, 0, 0, 0, 0, 0, 0, 0, 0, 0, 0, 0, 0, 0, 0, 0, 0, 0, 0, 0, 0, 0, 0, 0, 0, 0, 0, 0, 0,
+    0, 0, 0, 0, 0, 1, 0, 0, 0, 1, 0, 0, 0, 6, 0, 0, 0, 0, 0, 0, 0, 52, 0, 0, 0, 12, 0, 0, 0, 0, 0,
+    0, 0, 0, 0, 0, 0, 4, 0, 0, 0, 0, 0, 0, 0, 7, 0, 0, 0, 9, 0, 0, 0, 0, 0, 0, 0, 0, 0, 0, 0, 64,
+    0, 0, 0, 16, 0, 0, 0, 13, 0, 0, 0, 1, 0, 0, 0, 4, 0, 0, 0, 8, 0, 0, 0, 17, 0, 0, 0, 1, 0, 0, 0,
+    3, 0, 0, 0, 0, 0, 0, 0, 80, 0, 0, 0, 4, 0, 0, 0, 0, 0, 0, 0, 0, 0, 0, 0, 4, 0, 0, 0, 0, 0, 0,
+    0, 23, 0, 0, 0, 1, 0, 0, 0, 2, 0, 0, 0, 0, 0, 0, 0, 84, 0, 0, 0, 4, 0, 0, 0, 0, 0, 0, 0, 0, 0,
+    0, 0, 4, 0, 0, 0, 0, 0, 0, 0, 31, 0, 0, 0, 9, 0, 0, 0, 0, 0, 0, 0, 0, 0, 0, 0, 88, 0, 0, 0, 8,
+    0, 0, 0, 13, 0, 0, 0, 4, 0, 0, 0, 4, 0, 0, 0, 8, 0, 0, 0, 43, 0, 0, 0, 8, 0, 0, 0, 3, 0, 0, 0,
+    0, 0, 0, 0, 96, 0, 0, 0, 16, 0, 0, 0, 0, 0, 0, 0, 0, 0, 0, 0, 4, 0, 0, 0, 0, 0, 0, 0, 48, 0, 0,
+    0, 1, 0, 0, 0, 48, 0, 0, 0, 0, 0, 0, 0, 96, 0, 0, 0, 3, 0, 0, 0, 0, 0, 0, 0, 0, 0, 0, 0, 1, 0,
+    0, 0, 0, 0, 0, 0, 57, 0, 0, 0, 3, 0, 0, 112, 0, 0, 0, 0, 0, 0, 0, 0, 99, 0, 0, 0, 5, 0, 0, 0,
+    0, 0, 0, 0, 0, 0, 0, 0, 1, 0, 0, 0, 0, 0, 0, 0, 73, 0, 0, 0, 1, 0, 0, 0, 0, 0, 0, 0, 0, 0, 0,
+    0, 104, 0, 0, 0, 8, 0, 0, 0, 0, 0, 0, 0, 0, 0, 0, 0, 1, 0, 0, 0, 0, 0, 0, 0, 85, 0, 0, 0, 9, 0,
+    0, 0, 0, 0, 0, 0, 0, 0, 0, 0, 112, 0, 0, 0, 8, 0, 0, 0, 13, 0, 0, 0, 9, 0, 0, 0, 4, 0, 0, 0, 8,
+    0, 0, 0, 101, 0, 0, 0, 1, 0, 0, 0, 0, 0, 0, 0, 0, 0, 0, 0, 120, 0, 0, 0, 4, 0, 0, 0, 0, 0, 0,
+    0, 0, 0, 0, 0, 1, 0, 0, 0, 0, 0, 0, 0, 113, 0, 0, 0, 9, 0, 0, 0, 0, 0, 0, 0, 0, 0, 0, 0, 124,
+    0, 0, 0, 8, 0, 0, 0, 13, 0, 0, 0, 11, 0, 0, 0, 4, 0, 0, 0, 8, 0, 0, 0, 129, 0, 0, 0, 2, 0, 0,
+    0, 0, 0, 0, 0, 0, 0, 0, 0, 132, 0, 0, 0, 80, 0, 0, 0, 14, 0, 0, 0, 3, 0, 0, 0, 4, 0, 0, 0, 16,
+    0, 0, 0, 137, 0, 0, 0, 3, 0, 0, 0, 0, 0, 0, 0, 0, 0, 0, 0, 212, 0, 0, 0, 11, 0, 0, 0, 0, 0, 0,
+    0, 0, 0, 0, 0, 1, 0, 0, 0, 0, 0, 0, 0, 145, 0, 0, 0, 3, 0, 0, 0, 0, 0, 0, 0, 0, 0, 0, 0, 223,
+    0, 0, 0, 155, 0, 0, 0, 0, 0, 0, 0, 0, 0, 0, 0, 1, 0, 0, 0, 0, 0, 0, 0,
+];
+
+fn changed(alloc: Global, file: &[u8], at: usize, new: u8) -> Result<Vec<u8>, AllocError> {
+    let mut file = Vec::from_slice(alloc, file)?;
+    if at < file.len() {
+        file[at] = new;
+    }
+    Ok(file)
+}
+
+fn at(refusal: Refusal, section: u32, offset: u32) -> Option<Deny> {
+    Some(Deny::Refused(Spot {
+        refusal,
+        file: 0,
+        section,
+        offset,
+    }))
+}
+
 #[test]
 fn reads_the_file(rt: HostRuntime) {
     let read = read_object(rt.alloc(), &FILE, &Limit::INPUT).expect(&rt, "an object");
@@ -26,30 +85,68 @@ fn reads_the_file(rt: HostRuntime) {
 }
 
 #[test]
-fn refuses_others(rt: HostRuntime) {
-    let mut adding = FILE;
-    adding[52] = 0x01;
-    adding[53] = 0x30;
-    let alloc = rt.alloc();
-    let rows = [
-        (
-            read_object(alloc, &[], &Limit::INPUT).err(),
-            Refusal::NotElf,
-        ),
-        (
-            read_object(alloc, &FILE[..51], &Limit::INPUT).err(),
-            Refusal::NotElf,
-        ),
-        (
-            read_object(alloc, &FILE[..52], &Limit::INPUT).err(),
-            Refusal::NotYet,
-        ),
-        (
-            read_object(alloc, &adding, &Limit::INPUT).err(),
-            Refusal::NotYet,
-        ),
+fn reads_the_file_of_a_compiler(rt: HostRuntime) {
+    let read = read_object(rt.alloc(), &COMPILED, &Limit::INPUT).expect(&rt, "an object");
+    assert_eq!(rt; read.dropped, 2);
+    let names = [
+        b".text".as_slice(),
+        b".data".as_slice(),
+        b".rodata".as_slice(),
+        b".bss".as_slice(),
+        b".comment".as_slice(),
+        b".ARM.attributes".as_slice(),
     ];
-    for (denied, want) in rows {
-        assert_eq!(rt; denied, Some(refused(want)));
+    assert_eq!(rt; read.object.sections().len(), 6);
+    for (section, name) in read.object.sections().iter().zip(names) {
+        assert_eq!(rt; section.name.bytes(), name);
     }
+    let rows = [
+        (0, 0, RelocKind::MovwAbs, 2),
+        (0, 4, RelocKind::MovtAbs, 2),
+        (2, 0, RelocKind::Abs32, 1),
+    ];
+    assert_eq!(rt; read.object.relocs().len(), 3);
+    for (reloc, (section, offset, kind, symbol)) in read.object.relocs().iter().zip(rows) {
+        let want = Reloc {
+            section,
+            offset,
+            kind,
+            symbol,
+        };
+        assert_eq!(rt; *reloc, want);
+    }
+}
+
+#[test]
+fn refuses_broken_files(rt: HostRuntime) {
+    let alloc = rt.alloc();
+    let rows: [(&[u8], usize, u8, Option<Deny>); 9] = [
+        (&[], 0, 0, at(Refusal::NotElf, 0, 0)),
+        (&FILE[..143], 0, 0x7F, at(Refusal::BadTable, 0, 32)),
+        (&FILE, 4, 2, at(Refusal::NotArmRel, 0, 4)),
+        (&FILE, 248, 9, at(Refusal::BadTable, 2, 248)),
+        (&FILE, 72, 6, at(Refusal::BadName, 2, 72)),
+        (&FILE, 92, 7, at(Refusal::BadSymbol, 2, 92)),
+        (&COMPILED, 69, 9, at(Refusal::BadReloc, 2, 68)),
+        (&COMPILED, 72, 0, at(Refusal::BadReloc, 2, 72)),
+        (&FILE, 192, 7, at(Refusal::SectionKind, 1, 192)),
+    ];
+    for (file, place, new, want) in rows {
+        let file = changed(alloc, file, place, new).expect(&rt, "memory");
+        assert!(rt; file.len() < 2000);
+        assert_eq!(rt;
+            read_object(alloc, file.as_slice(), &Limit::INPUT).err(),
+            want
+        );
+    }
+}
+
+#[test]
+fn refuses_what_passes_the_limit(rt: HostRuntime) {
+    let limit = Limit {
+        sections: 4,
+        ..Limit::INPUT
+    };
+    let denied = read_object(rt.alloc(), &FILE, &limit).err();
+    assert_eq!(rt; denied, at(Refusal::TooMany, 0, 48));
 }

@@ -3,8 +3,6 @@ use Rattle.std.proofs.Common.{◌≡◌, ◌≢◌, ◌<◌, ◌≤◌, inl, inr
 use Rattle.std.proofs.lemmas.List.{length-take, take_all}
 use Rattle.guard_io.specs.Outside.{Rose, IsLoaded, IsPartlySaved}
 use Rattle.elf_model.specs.declared.refusals.Spot.{Spot}
-use Rattle.elf_model.specs.Canonical.{canonical}
-use Rattle.elf_read.specs.FirstForm.{first_object}
 use Rattle.guard_cli.specs.declared.endings.Ending.{Ending}
 use Rattle.guard_cli.specs.declared.endings.Ending.TheVariants.{Done, Refused, Usage, ReadFault, WriteFault, PrintFault, NoMemory}
 use Rattle.guard_cli.specs.Words.{Pair}
@@ -33,40 +31,44 @@ refused_whole (Some file) most bytes spot h large (inr short) =
     (bytes, loaded_whole (Some file) most bytes h (omega arith), inr short)
 
 -- What was read and saved is hardened, so it is done once it is said.
-done_of : (p : Pair) (halves : List ℕ) (old new : Files) (screen after : Screen) → IsRead p old halves → IsSaved p.output (output_of halves) old new
-    → IsPut (report_of p halves) screen after → IsDone p old new screen after halves
-done_of p halves old new screen after read saved said = record {
+done_of : (p : Pair) (halves : List ℕ) (dropped : ℕ) (old new : Files) (screen after : Screen) → IsRead p old halves dropped → IsSaved p.output (output_of halves) old new
+    → IsPut (report_of p halves dropped) screen after → IsDone p old new screen after halves dropped
+done_of p halves dropped old new screen after read saved said = record {
   read = read;
   saved = saved;
   said = said;
-  hardened = λ told picked pick. promised p halves read.code old.content new.content (canonical (first_object halves)) (output_of halves) refl refl
-      (read.file told) (saved.whole told) picked pick;
+  hardened = λ told picked pick.
+      let found = read.file told in
+      promised p halves read.code old.content new.content found.0 (output_of halves) found.2.stands refl found.1 (saved.whole told) picked pick;
 }
 
 -- how a command ends that has saved the output
-pub ends_saved : (p : Pair) (halves : List ℕ) (old new : Files) (screen after : Screen) (ending : Ending) → IsRead p old halves → IsSaved p.output (output_of halves) old new
-    → ReportEndsAs (report_of p halves) screen after ending → EndsAs p old new screen after ending
-ends_saved p halves old new screen after Done read saved said = (halves, done_of p halves old new screen after read saved said)
-ends_saved p halves old new screen after PrintFault read saved said = (halves, record { read = read; saved = saved; cause = said })
-ends_saved p halves old new screen after NoMemory read saved said = (inr (halves, read, saved), said)
-ends_saved p halves old new screen after (Refused spot) read saved said = absurd said
-ends_saved p halves old new screen after Usage read saved said = absurd said
-ends_saved p halves old new screen after ReadFault read saved said = absurd said
-ends_saved p halves old new screen after WriteFault read saved said = absurd said
+pub ends_saved : (p : Pair) (halves : List ℕ) (dropped : ℕ) (old new : Files) (screen after : Screen) (ending : Ending) → IsRead p old halves dropped → IsSaved p.output (output_of halves) old new
+    → ReportEndsAs (report_of p halves dropped) screen after ending → EndsAs p old new screen after ending
+ends_saved p halves dropped old new screen after Done read saved said = (halves, dropped, done_of p halves dropped old new screen after read saved said)
+ends_saved p halves dropped old new screen after PrintFault read saved said = (halves, dropped, record { read = read; saved = saved; cause = said })
+ends_saved p halves dropped old new screen after NoMemory read saved said = (inr (halves, dropped, read, saved), said)
+ends_saved p halves dropped old new screen after (Refused spot) read saved said = absurd said
+ends_saved p halves dropped old new screen after Usage read saved said = absurd said
+ends_saved p halves dropped old new screen after ReadFault read saved said = absurd said
+ends_saved p halves dropped old new screen after WriteFault read saved said = absurd said
 
 -- what was read of a file that was loaded
-pub read_of : (p : Pair) (files : Files) (most : ℕ) (output bytes file report halves : List ℕ) → (IsTrue files.told → IsLoaded (files.content p.input) most bytes)
-    → file_limit < most → IsDecided output bytes file report halves → IsRead p files halves
-read_of p files most output bytes file report halves loaded large d =
-    let short = d.short in
-    record { code = d.code; file = λ told. loaded_whole (files.content p.input) most bytes (loaded told) (omega arith) ∙ ap Some d.input_is }
+pub read_of : (p : Pair) (files : Files) (most : ℕ) (output bytes file report halves : List ℕ) (dropped : ℕ) → (IsTrue files.told → IsLoaded (files.content p.input) most bytes)
+    → file_limit < most → IsDecided output bytes file report halves dropped → IsRead p files halves dropped
+read_of p files most output bytes file report halves dropped loaded large d =
+    let short = d.input_is.short in
+    record { code = d.code; file = λ told. (bytes, loaded_whole (files.content p.input) most bytes (loaded told) (omega arith), d.input_is) }
 
 -- From files that no one has touched so far, the same holds as from the files before.
 told_before : (old mid : Files) → Untouched old mid → IsTrue old.told → IsTrue mid.told
 told_before old mid same told = same.told ∙ told
 
-read_before : (p : Pair) (old mid : Files) (halves : List ℕ) → Untouched old mid → IsRead p mid halves → IsRead p old halves
-read_before p old mid halves same read = record { code = read.code; file = λ told. sym (same.each p.input) ∙ read.file (told_before old mid same told) }
+read_before : (p : Pair) (old mid : Files) (halves : List ℕ) (dropped : ℕ) → Untouched old mid → IsRead p mid halves dropped → IsRead p old halves dropped
+read_before p old mid halves dropped same read = record {
+  code = read.code;
+  file = λ told. let found = read.file (told_before old mid same told) in (found.0, sym (same.each p.input) ∙ found.1, found.2);
+}
 
 others_before : (name : List ℕ) (old mid new : Files) → Untouched old mid → SameBut name mid new → SameBut name old new
 others_before name old mid new same others = record { told = others.told ∙ same.told; each = λ other apart. others.each other apart ∙ same.each other }
@@ -88,8 +90,8 @@ untouched_before old mid new first second = record {
 }
 
 pub ends_before : (p : Pair) (old mid new : Files) (screen after : Screen) (ending : Ending) → Untouched old mid → ending ≢ ReadFault → EndsAs p mid new screen after ending → EndsAs p old new screen after ending
-ends_before p old mid new screen after Done same no_fault (halves, done) =
-    (halves, done_of p halves old new screen after (read_before p old mid halves same done.read) (saved_before p.output (output_of halves) old mid new same done.saved) done.said)
+ends_before p old mid new screen after Done same no_fault (halves, dropped, done) =
+    (halves, dropped, done_of p halves dropped old new screen after (read_before p old mid halves dropped same done.read) (saved_before p.output (output_of halves) old mid new same done.saved) done.said)
 ends_before p old mid new screen after (Refused spot) same no_fault refused = record {
   cause = (λ told. let found = refused.cause (told_before old mid same told) in (found.0, sym (same.each p.input) ∙ found.1, found.2));
   untouched = untouched_before old mid new same refused.untouched;
@@ -97,20 +99,21 @@ ends_before p old mid new screen after (Refused spot) same no_fault refused = re
 }
 ends_before p old mid new screen after Usage same no_fault e = absurd e
 ends_before p old mid new screen after ReadFault same no_fault e = absurd (no_fault refl)
-ends_before p old mid new screen after WriteFault same no_fault (halves, unsaved) = (
+ends_before p old mid new screen after WriteFault same no_fault (halves, dropped, unsaved) = (
   halves,
+  dropped,
   record {
-    read = read_before p old mid halves same unsaved.read;
+    read = read_before p old mid halves dropped same unsaved.read;
     cause = subst (λ count. Rose count new.save_faults) same.saves unsaved.cause;
     saved = half_saved_before p.output (output_of halves) old mid new same unsaved.saved;
     said = unsaved.said;
   },
 )
-ends_before p old mid new screen after PrintFault same no_fault (halves, unsaid) =
-    (halves, record { read = read_before p old mid halves same unsaid.read; saved = saved_before p.output (output_of halves) old mid new same unsaid.saved; cause = unsaid.cause })
+ends_before p old mid new screen after PrintFault same no_fault (halves, dropped, unsaid) =
+    (halves, dropped, record { read = read_before p old mid halves dropped same unsaid.read; saved = saved_before p.output (output_of halves) old mid new same unsaid.saved; cause = unsaid.cause })
 ends_before p old mid new screen after NoMemory same no_fault (inl untouched, said) = (inl (untouched_before old mid new same untouched), said)
-ends_before p old mid new screen after NoMemory same no_fault (inr (halves, read, saved), said) =
-    (inr (halves, read_before p old mid halves same read, saved_before p.output (output_of halves) old mid new same saved), said)
+ends_before p old mid new screen after NoMemory same no_fault (inr (halves, dropped, read, saved), said) =
+    (inr (halves, dropped, read_before p old mid halves dropped same read, saved_before p.output (output_of halves) old mid new same saved), said)
 
 -- an output by the pair's name
 pub saved_as : (p : Pair) (halves name bytes file : List ℕ) (old new : Files) → p.output ≡ name → bytes ≡ file → file ≡ output_of halves → IsSaved name bytes old new
@@ -124,5 +127,5 @@ half_saved_as p halves name bytes file old new name_is bytes_are file_is saved =
     subst (λ n. IsHalfSaved n (output_of halves) old new) (sym name_is) (subst (λ b. IsHalfSaved name b old new) (bytes_are ∙ file_is) saved)
 
 -- the report names the output only
-pub report_as : (p : Pair) (halves name : List ℕ) → p.output ≡ name → report_of (record { input = []; output = name }) halves ≡ report_of p halves
-report_as p halves name e = ap (λ n. report_of (record { input = []; output = n }) halves) (sym e)
+pub report_as : (p : Pair) (halves : List ℕ) (dropped : ℕ) (name : List ℕ) → p.output ≡ name → report_of (record { input = []; output = name }) halves dropped ≡ report_of p halves dropped
+report_as p halves dropped name e = ap (λ n. report_of (record { input = []; output = n }) halves dropped) (sym e)

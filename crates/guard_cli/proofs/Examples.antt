@@ -1,8 +1,7 @@
 -- The definitions, run on the smallest code: `movs r0, #5` and `bx lr`, plain and hardened.
-use Rattle.std.specs.Prelude.{◌≡◌, ℕ, ◌+◌, ◌*◌, ◌-◌, Bool, true, false, List, [], ◌∷◌, length, map, replicate, Option, Some, None, Result, Ok, Err, refl, codes}
-use Rattle.elf_read.specs.FirstForm.{first_object}
+use Rattle.std.specs.Prelude.{◌≡◌, ℕ, ◌+◌, Bool, true, false, List, [], ◌∷◌, length, Option, Some, None, Result, Ok, Err, refl, codes}
+use Rattle.guard_cli.specs.FirstForm.{first_object}
 use Rattle.guard_cli.specs.Output.{hardened_object}
-use Rattle.mark_word.specs.Words.{bare}
 use Rattle.thumb_instr.specs.Rows.{decode}
 use Rattle.thumb_instr.specs.declared.instructions.Instr.TheVariants.{Move, Jump}
 use Rattle.thumb_instr.specs.declared.operands.MoveOp.TheVariants.{Mov}

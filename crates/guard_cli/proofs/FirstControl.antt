@@ -5,7 +5,7 @@ use Rattle.std.proofs.lemmas.Option.{same_Some}
 use Rattle.elf_model.specs.declared.objects.Section.{Section}
 use Rattle.elf_model.specs.declared.objects.MapRow.{MapRow}
 use Rattle.elf_model.specs.Maps.{map_section}
-use Rattle.elf_read.specs.FirstForm.{code_bytes, first_object}
+use Rattle.guard_cli.specs.FirstForm.{code_bytes, first_object}
 use Rattle.thumb_table.specs.States.{State, at, read}
 use Rattle.thumb_table.specs.declared.faults.FaultKind.{FaultKind}
 use Rattle.thumb_table.specs.Steps.{move}

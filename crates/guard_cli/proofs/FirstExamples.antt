@@ -1,7 +1,7 @@
 -- The laws at work on the smallest code: `movs r0, #5` and `bx lr`, whatever is skipped.
 use Rattle.std.proofs.Common.{◌≡◌, ℕ, true, false, List, [], ◌∷◌, refl, arith}
 use Rattle.std.proofs.lemmas.List.Elements.{All-nil, All-cons}
-use Rattle.elf_read.specs.FirstForm.{IsMove, IsFirstCode, code_bytes}
+use Rattle.guard_cli.specs.FirstForm.{IsMove, IsFirstCode, code_bytes}
 use Rattle.thumb_table.specs.Parts.{CodeBytes}
 use Rattle.thumb_table.specs.States.{Core, State, at, read}
 use Rattle.thumb_table.specs.Schedules.{IsLegal, Returns, exit, is_in}

@@ -2,7 +2,7 @@
 use Rattle.std.proofs.Common.{◌≡◌, ℕ, ◌+◌, ◌*◌, ◌≤◌, Bool, false, List, [], ◌∷◌, length, Some, None, All, refl, sym, ap, ◌∙◌, subst, inl, Ok, le_trans, arith}
 use Rattle.std.proofs.lemmas.List.Elements.{All-nil}
 use Rattle.elf_model.specs.declared.objects.MapRow.{MapRow}
-use Rattle.elf_read.specs.FirstForm.{IsFirstCode, code_bytes, first_object}
+use Rattle.guard_cli.specs.FirstForm.{IsFirstCode, code_bytes, first_object}
 use Rattle.guard_cli.specs.Output.{doubled, hardened_object}
 use Rattle.mark_word.specs.Words.{Word}
 use Rattle.thumb_table.specs.Parts.{CodeBytes, Memory}

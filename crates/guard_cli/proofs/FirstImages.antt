@@ -7,7 +7,7 @@ use Rattle.elf_model.specs.Fields.{same_name}
 use Rattle.elf_model.specs.Objects.{ObjectParts, is_code}
 use Rattle.elf_model.specs.Canonical.{round_up}
 use Rattle.elf_model.specs.Maps.{map_section}
-use Rattle.elf_read.specs.FirstForm.{code_bytes, text_section, code_symbol, function_symbol, first_object}
+use Rattle.guard_cli.specs.FirstForm.{code_bytes, text_section, code_symbol, function_symbol, first_object}
 use Rattle.guard_cli.specs.Output.{doubled, rows_of, hardened_object}
 use Rattle.mark_word.specs.Words.{bare}
 use Rattle.thumb_table.specs.Images.{Placed, as_part, IsPlacement, IsImage, is_data, chosen, placed, bytes_from, code_parts, data_parts, code_bytes_of, data_bytes_of, entries_of, entry_of, even}

@@ -9,7 +9,7 @@ use Rattle.elf_model.specs.declared.objects.Symbol.{Symbol}
 use Rattle.elf_model.specs.Objects.{ObjectParts}
 use Rattle.elf_model.specs.Canonical.{round_up}
 use Rattle.elf_model.specs.Maps.{map_section}
-use Rattle.elf_read.specs.FirstForm.{IsFirstCode, code_bytes, first_object, code_symbol, function_symbol}
+use Rattle.guard_cli.specs.FirstForm.{IsFirstCode, code_bytes, first_object, code_symbol, function_symbol}
 use Rattle.guard_cli.specs.Output.{doubled, rows_of, hardened_object}
 use Rattle.mark_word.specs.Words.{bare}
 use Rattle.thumb_table.specs.Images.{Placed, as_part, IsPlacement, Defined, IsDataStart, IsStop, CanLink, IsImage, entries_of, code_bytes_of, is_function, even, address_of, is_mapping_of}

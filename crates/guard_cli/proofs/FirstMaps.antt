@@ -7,7 +7,7 @@ use Rattle.elf_model.specs.declared.objects.MapRow.{MapRow}
 use Rattle.elf_model.specs.declared.objects.RowKind.TheVariants as row
 use Rattle.elf_model.specs.Objects.{ObjectParts}
 use Rattle.elf_model.specs.Maps.{HasMap}
-use Rattle.elf_read.specs.FirstForm.{IsFirstCode, code_bytes, text_section, first_object}
+use Rattle.guard_cli.specs.FirstForm.{IsFirstCode, code_bytes, text_section, first_object}
 use Rattle.guard_cli.specs.Output.{doubled, rows_from, rows_of, hardened_object}
 use Rattle.thumb_table.specs.Images.{even}
 use Rattle.thumb_table.specs.Parts.{Image}

@@ -5,7 +5,7 @@ use Rattle.std.proofs.lemmas.Bool.{ne_eqb, cases_eq}
 use Rattle.std.proofs.lemmas.List.{set-set, map-append, length-map, length-append}
 use Rattle.std.proofs.lemmas.List.Elements.{All-nil, All-cons, All-head, All-tail, All-weaker, All-push}
 use Rattle.std.proofs.lemmas.Grind.{flat_map-append}
-use Rattle.elf_read.specs.FirstForm.{IsMove, IsFirstCode, return_half, code_bytes}
+use Rattle.guard_cli.specs.FirstForm.{IsMove, IsFirstCode, return_half, code_bytes}
 use Rattle.mark_word.specs.Words.{Word, plain}
 use Rattle.mark_word.specs.declared.marks.Mark.TheVariants.{Plain, Return}
 use Rattle.mark_word.specs.Formulas.{expand_imm}

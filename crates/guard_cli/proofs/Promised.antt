@@ -10,8 +10,7 @@ use Rattle.elf_model.specs.Files.{StandsFor}
 use Rattle.elf_model.specs.Maps.{map_section}
 use Rattle.elf_model.specs.Fits.{Fits, SectionFits, SymbolFits}
 use Rattle.elf_model.proofs.Stands.{stands}
-use Rattle.elf_read.specs.FirstForm.{IsFirstCode, first_object, code_bytes, text_section, code_symbol, function_symbol}
-use Rattle.elf_read.proofs.Standing.{stands_first}
+use Rattle.guard_cli.specs.FirstForm.{IsFirstCode, first_object, code_bytes, text_section, code_symbol, function_symbol}
 use Rattle.guard_cli.specs.Words.{Pair}
 use Rattle.guard_cli.specs.Output.{hardened_object, doubled, rows_of}
 use Rattle.guard_cli.specs.Hardened.{Hardened}
@@ -67,12 +66,6 @@ hard_fits halves is =
 pub stands_hardened : (halves : List ℕ) → IsFirstCode halves → StandsFor (canonical (hardened_object halves)) (hardened_object halves)
 stands_hardened halves is = stands (hardened_object halves) (hard_is_object halves) (hard_fits halves is)
 
-stands_plain : (halves : List ℕ) → IsFirstCode halves → StandsFor (canonical (first_object halves)) (first_object halves)
-stands_plain halves is =
-    let l = length-code_bytes halves in
-    let s = is.short in
-    stands_first (canonical (first_object halves)) (code_bytes halves) (first_object halves) (omega arith) refl refl
-
 -- Of one pair there are two picks: none, or that pair.
 module _ (p : Pair) (P : List Pair → Type 0) (none : P []) (one : P (p ∷ [])) where
   picks_at : (places : List ℕ) (picked : List Pair) → AllPairs (λ j k. j ≢ k) places → ArePlaced (p ∷ []) places picked → P picked
@@ -104,11 +97,11 @@ none_promised : (before after : List ℕ → Option (List ℕ)) → AreHardened 
 none_promised before after = record { ins = []; outs = []; inputs = tt; outputs = tt; hardened = none_hardened 2 (omega arith) (omega arith) }
 
 pub promised : (p : Pair) (halves : List ℕ) → IsFirstCode halves → (before after : List ℕ → Option (List ℕ)) (old new : List ℕ) →
-    old ≡ canonical (first_object halves) → new ≡ canonical (hardened_object halves) → before p.input ≡ Some old → after p.output ≡ Some new →
+    StandsFor old (first_object halves) → new ≡ canonical (hardened_object halves) → before p.input ≡ Some old → after p.output ≡ Some new →
     (picked : List Pair) → IsPick (p ∷ []) picked → AreHardened picked before after 2
-promised p halves is before after old new old_is new_is input output =
+promised p halves is before after old new stands_old new_is input output =
     picks p (λ picked. AreHardened picked before after 2) (none_promised before after)
     (one_hardened p before after 2 old new (first_object halves) (hardened_object halves) input output
-    (subst (λ (b : List ℕ). StandsFor b (first_object halves)) (sym old_is) (stands_plain halves is))
+    stands_old
     (subst (λ (b : List ℕ). StandsFor b (hardened_object halves)) (sym new_is) (stands_hardened halves is))
     (first_hardened halves is))

@@ -8,7 +8,7 @@ use Rattle.std.proofs.lemmas.List.Elements.{All-head, All-tail}
 use Rattle.byteorder.specs.Endian.{little_number}
 use Rattle.byteorder.specs.Numbers.{little_number-reads_back, length-bytes_low_first}
 use Rattle.elf_model.specs.Fields.{half}
-use Rattle.elf_read.specs.FirstForm.{code_bytes}
+use Rattle.guard_cli.specs.FirstForm.{code_bytes}
 use Rattle.thumb_instr.specs.Rows.{is_wide}
 use Rattle.thumb_table.specs.Parts.{CodeBytes}
 use Rattle.thumb_table.specs.Steps.{Fetched, fetch, half_of}

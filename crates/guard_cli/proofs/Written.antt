@@ -7,7 +7,7 @@ use Rattle.elf_model.specs.Fields.{word, half}
 use Rattle.elf_model.specs.Canonical.{canonical, round_up}
 use Rattle.elf_model.specs.Maps.{map_section, row_bytes}
 use Rattle.elf_model.specs.Objects.{ObjectParts}
-use Rattle.elf_read.specs.FirstForm.{code_bytes, text_section, code_symbol, function_symbol}
+use Rattle.guard_cli.specs.FirstForm.{code_bytes, text_section, code_symbol, function_symbol}
 use Rattle.guard_cli.specs.Output.{doubled, rows_from, rows_of, hardened_object}
 use Rattle.guard_cli.specs.declared.texts.Counts.{Counts}
 use Rattle.guard_cli.specs.Texts.{report}
@@ -124,14 +124,14 @@ written halves code n a b c d e f code_is n_is none h1 h2 h3 h4 h5 =
     ∙ sym (canonical-hardened halves)
 
 -- what is counted of n instructions
-abbrev counts : ℕ → Counts
-counts n = record { functions = 1; before = n; after = 2 * n; old_bytes = 2 * n; new_bytes = 4 * n; dropped = 0; factor = 2 }
+abbrev counts : ℕ → ℕ → Counts
+counts dropped n = record { functions = 1; before = n; after = 2 * n; old_bytes = 2 * n; new_bytes = 4 * n; dropped = dropped; factor = 2 }
 
 -- The report says the counts of the code.
-pub reported : (output halves code : List ℕ) (n : ℕ) (k : Counts) → code ≡ code_bytes halves → n ≡ length code / 2
-    → k ≡ record { functions = 1; before = n; after = 2 * n; old_bytes = 2 * n; new_bytes = 4 * n; dropped = 0; factor = 2 }
-    → report (tally_with output k ∷ []) ≡ report_of (record { input = []; output = output }) halves
-reported output halves code n k code_is n_is k_is =
+pub reported : (output halves code : List ℕ) (dropped n : ℕ) (k : Counts) → code ≡ code_bytes halves → n ≡ length code / 2
+    → k ≡ record { functions = 1; before = n; after = 2 * n; old_bytes = 2 * n; new_bytes = 4 * n; dropped = dropped; factor = 2 }
+    → report (tally_with output k ∷ []) ≡ report_of (record { input = []; output = output }) halves dropped
+reported output halves code dropped n k code_is n_is k_is =
     let l = ap length code_is ∙ length-code_bytes halves in
     let same : n ≡ length halves = omega arith in
-    ap (λ x. report (tally_with output x ∷ [])) k_is ∙ ap (λ m. report (tally_with output (counts m) ∷ [])) same
+    ap (λ x. report (tally_with output x ∷ [])) k_is ∙ ap (λ m. report (tally_with output (counts dropped m) ∷ [])) same

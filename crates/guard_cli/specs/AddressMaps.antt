@@ -1,5 +1,5 @@
 -- Where the map of a hardened object takes addresses of the plain one, and what is the same up to that.
-use Rattle.std.specs.Prelude.{◌≡◌, ◌<◌, ◌≤◌, ◌⊎◌, ℕ, ◌+◌, ◌-◌, ◌*◌, ◌%◌, ◌^◌, true, List, length, Option, Some, None, slice_get, get_or, Contains}
+use Rattle.std.specs.Prelude.{◌≡◌, ◌<◌, ◌≤◌, ◌⊎◌, ℕ, ◌+◌, ◌-◌, ◌%◌, ◌^◌, true, List, length, Option, Some, None, slice_get, get_or, Contains}
 use Rattle.elf_model.specs.declared.objects.MapRow.{MapRow}
 use Rattle.elf_model.specs.declared.objects.RowKind.{RowKind}
 use Rattle.elf_model.specs.declared.objects.RowKind.TheVariants as row
@@ -7,7 +7,7 @@ use Rattle.mark_word.specs.Words.{Word, Cell, byte_of, bare}
 use Rattle.mark_word.specs.declared.cells.Piece.{Piece}
 use Rattle.mark_word.specs.declared.marks.Mark.{Mark}
 use Rattle.mark_word.specs.declared.marks.Mark.TheVariants.{Plain, Entry, Return, Low}
-use Rattle.thumb_table.specs.States.{Core, State, read}
+use Rattle.thumb_table.specs.States.{State, read}
 use Rattle.thumb_table.specs.Images.{even}
 use Rattle.thumb_table.specs.Parts.{Image}
 use Rattle.thumb_table.specs.declared.parts.Part.{Part}

@@ -1,3 +1,5 @@
+pub mod FirstForm
+pub mod FirstCode
 pub mod Words
 pub mod Output
 pub mod Texts

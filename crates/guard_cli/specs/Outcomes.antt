@@ -1,14 +1,13 @@
 -- What the steps of `harden` say, from the bytes of an input to the report.
-use Rattle.std.specs.Prelude.{◌≡◌, ◌≤◌, ℕ, List, [], length, ⊤}
+use Rattle.std.specs.Prelude.{◌≡◌, ℕ, List, [], ⊤}
 use Rattle.elf_model.specs.declared.refusals.Deny.{Deny}
 use Rattle.elf_model.specs.declared.refusals.Deny.TheVariants as deny
-use Rattle.elf_model.specs.Canonical.{canonical}
-use Rattle.elf_read.specs.FirstForm.{IsFirstCode, first_object}
+use Rattle.guard_cli.specs.FirstForm.{IsFirstCode}
 use Rattle.guard_cli.specs.declared.endings.Ending.{Ending}
 use Rattle.guard_cli.specs.declared.endings.Ending.TheVariants.{Done, PrintFault, NoMemory}
 use Rattle.guard_cli.specs.declared.texts.Counts.{Counts}
 use Rattle.guard_cli.specs.Texts.{Tally, no_memory_line}
-use Rattle.guard_cli.specs.Runs.{Screen, IsPut, IsCutOff, IsToldOf, IsInputRefusal, file_limit, output_of, report_of}
+use Rattle.guard_cli.specs.Runs.{Screen, IsPut, IsCutOff, IsToldOf, IsInputRefusal, IsFileOf, output_of, report_of}
 
 -- the counts of an output of this name
 abbrev pub tally_with : List ℕ → Counts → Tally
@@ -24,12 +23,11 @@ tally_with output n = record {
 }
 
 -- what is made of an input of the first form: the output's file, and the report that names it
-pub record IsDecided (output bytes file report : List ℕ) (halves : List ℕ) : Type 0 where
+pub record IsDecided (output bytes file report : List ℕ) (halves : List ℕ) (dropped : ℕ) : Type 0 where
   pub code : IsFirstCode halves
-  pub short : length bytes ≤ file_limit
-  pub input_is : bytes ≡ canonical (first_object halves)
+  pub input_is : IsFileOf halves dropped bytes
   pub file_is : file ≡ output_of halves
-  pub report_is : report ≡ report_of (record { input = []; output = output }) halves
+  pub report_is : report ≡ report_of (record { input = []; output = output }) halves dropped
 
 -- why nothing is made of an input
 abbrev pub IsTurnedDown : List ℕ → Deny → Type 0

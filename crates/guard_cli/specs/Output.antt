@@ -5,7 +5,7 @@ use Rattle.elf_model.specs.declared.objects.MapRow.{MapRow}
 use Rattle.elf_model.specs.declared.objects.RowKind.TheVariants.{Start}
 use Rattle.elf_model.specs.Objects.{ObjectParts}
 use Rattle.elf_model.specs.Maps.{map_section}
-use Rattle.elf_read.specs.FirstForm.{code_bytes, text_section, code_symbol, function_symbol}
+use Rattle.guard_cli.specs.FirstForm.{code_bytes, text_section, code_symbol, function_symbol}
 
 -- each halfword twice in its place
 abbrev pub doubled : List ℕ → List ℕ

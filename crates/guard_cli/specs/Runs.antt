@@ -3,8 +3,12 @@ use Rattle.std.specs.Prelude.{◌≡◌, ◌≢◌, ◌<◌, ◌≤◌, ◌⊎�
 use Rattle.guard_io.specs.Outside.{Rose, IsPartlySaved, IsPartlyPut}
 use Rattle.elf_model.specs.declared.refusals.Refusal.TheVariants.{TooLong, NotYet}
 use Rattle.elf_model.specs.declared.refusals.Spot.{Spot}
+use Rattle.elf_model.specs.declared.refusals.TheConstants.Limit.{INPUT}
+use Rattle.elf_model.specs.Objects.{ObjectParts}
+use Rattle.elf_model.specs.Files.{StandsFor}
 use Rattle.elf_model.specs.Canonical.{canonical}
-use Rattle.elf_read.specs.FirstForm.{IsFirstCode, IsRefusalOf, first_object, at_start}
+use Rattle.elf_read.specs.Faults.{IsFirstFault, IsFaultless, dropped_count}
+use Rattle.guard_cli.specs.FirstForm.{IsFirstCode, IsFirstObject, first_object, at_start}
 use Rattle.guard_cli.specs.declared.endings.Ending.{Ending}
 use Rattle.guard_cli.specs.declared.endings.Ending.TheVariants.{Done, Refused, Usage, ReadFault, WriteFault, PrintFault, NoMemory}
 use Rattle.guard_cli.specs.Words.{Pair}
@@ -71,42 +75,67 @@ IsToldOf text old new = IsPut text old new ⊎ IsCutOff text old new ⊎ IsPut [
 abbrev pub file_limit : ℕ
 file_limit = 1048576
 
--- When the one input is refused: it is longer than the limit, or reading refuses it.
-abbrev pub IsInputRefusal : List ℕ → Spot → Type 0
-IsInputRefusal file spot = ((spot ≡ at_start TooLong) × (file_limit < length file)) ⊎ ((length file ≤ file_limit) × IsRefusalOf file spot)
+-- A file that is not handled yet: nothing is wrong with it, and its object is not of the first form.
+pub record IsUnhandled (file : List ℕ) : Type 0 where
+  pub faultless : IsFaultless file INPUT
+  pub object : ObjectParts
+  pub stands : StandsFor file object
+  pub other_form : IsFirstObject object → ⊥
 
--- the code that was read from an input
-pub record IsRead (p : Pair) (files : Files) (halves : List ℕ) : Type 0 where
+-- When the one input is refused: it is longer than the limit, or else it has a fault, of which the first
+-- counts, or else it is not handled yet.
+abbrev pub IsInputRefusal : List ℕ → Spot → Type 0
+IsInputRefusal file spot =
+    ((spot ≡ at_start TooLong) × (file_limit < length file))
+    ⊎ ((length file ≤ file_limit) × (IsFirstFault file INPUT spot ⊎ ((spot ≡ at_start NotYet) × IsUnhandled file)))
+
+-- a file that is handled: nothing is wrong with it, and its object is of the first form
+pub record IsHandled (file : List ℕ) : Type 0 where
+  pub short : length file ≤ file_limit
+  pub faultless : IsFaultless file INPUT
+  pub object : ObjectParts
+  pub stands : StandsFor file object
+  pub first_form : IsFirstObject object
+
+-- the file of this code, of which so many sections are left out
+pub record IsFileOf (halves : List ℕ) (dropped : ℕ) (file : List ℕ) : Type 0 where
+  pub short : length file ≤ file_limit
+  pub faultless : IsFaultless file INPUT
+  pub stands : StandsFor file (first_object halves)
+  pub left_out : dropped ≡ dropped_count file
+
+-- the code that was read from an input, and how many sections were left out
+pub record IsRead (p : Pair) (files : Files) (halves : List ℕ) (dropped : ℕ) : Type 0 where
   pub code : IsFirstCode halves
-  pub file : IsTrue files.told → files.content p.input ≡ Some (canonical (first_object halves))
+  pub file : IsTrue files.told → (file : List ℕ) × (files.content p.input ≡ Some file) × IsFileOf halves dropped file
 
 -- what is said of it: every halfword is an instruction
-abbrev pub tally_of : Pair → List ℕ → Tally
-tally_of p halves = record {
+abbrev pub tally_of : Pair → List ℕ → ℕ → Tally
+tally_of p halves dropped = record {
   output = p.output;
   functions = 1;
   before = length halves;
   after = 2 * length halves;
   old_bytes = 2 * length halves;
   new_bytes = 4 * length halves;
-  dropped = 0;
+  dropped = dropped;
   factor = 2;
 }
 
 abbrev pub output_of : List ℕ → List ℕ
 output_of halves = canonical (hardened_object halves)
 
-abbrev pub report_of : Pair → List ℕ → List ℕ
-report_of p halves = report (tally_of p halves ∷ [])
+abbrev pub report_of : Pair → List ℕ → ℕ → List ℕ
+report_of p halves dropped = report (tally_of p halves dropped ∷ [])
 
 -- Everything was made, saved and said.
-pub record IsDone (p : Pair) (old new : Files) (screen after : Screen) (halves : List ℕ) : Type 0 where
-  pub read : IsRead p old halves
+pub record IsDone (p : Pair) (old new : Files) (screen after : Screen) (halves : List ℕ) (dropped : ℕ) : Type 0 where
+  pub read : IsRead p old halves dropped
   pub saved : IsSaved p.output (output_of halves) old new
-  pub said : IsPut (report_of p halves) screen after
+  pub said : IsPut (report_of p halves dropped) screen after
   -- Skips do no harm to what was saved, with the factor that the report ends with.
   pub hardened : IsTrue old.told → (picked : List Pair) → IsPick (p ∷ []) picked →
-      AreHardened picked old.content new.content (greatest_factor (tally_of p halves ∷ []))
+      AreHardened picked old.content new.content (greatest_factor (tally_of p halves dropped ∷ []))
 
 -- The input was refused, and nothing was touched.
 pub record IsRefusedFor (p : Pair) (old new : Files) (screen after : Screen) (spot : Spot) : Type 0 where
@@ -122,30 +151,30 @@ pub record IsUnread (p : Pair) (old new : Files) (screen after : Screen) : Type 
   pub said : IsToldOf (read_fault_line p.input) screen after
 
 -- The output could not be written.
-pub record IsUnsaved (p : Pair) (old new : Files) (screen after : Screen) (halves : List ℕ) : Type 0 where
-  pub read : IsRead p old halves
+pub record IsUnsaved (p : Pair) (old new : Files) (screen after : Screen) (halves : List ℕ) (dropped : ℕ) : Type 0 where
+  pub read : IsRead p old halves dropped
   pub cause : Rose old.save_faults new.save_faults
   pub saved : IsHalfSaved p.output (output_of halves) old new
   pub said : IsToldOf (write_fault_line p.output) screen after
 
 -- Everything was made and saved, and the report could not be written.
-pub record IsUnsaid (p : Pair) (old new : Files) (screen after : Screen) (halves : List ℕ) : Type 0 where
-  pub read : IsRead p old halves
+pub record IsUnsaid (p : Pair) (old new : Files) (screen after : Screen) (halves : List ℕ) (dropped : ℕ) : Type 0 where
+  pub read : IsRead p old halves dropped
   pub saved : IsSaved p.output (output_of halves) old new
-  pub cause : IsCutOff (report_of p halves) screen after
+  pub cause : IsCutOff (report_of p halves dropped) screen after
 
 -- Memory ran out, before the save or in it, or behind it.
 abbrev pub IsUntouchedOrSaved : Pair → Files → Files → Type 0
-IsUntouchedOrSaved p old new = Untouched old new ⊎ ((halves : List ℕ) × IsRead p old halves × IsSaved p.output (output_of halves) old new)
+IsUntouchedOrSaved p old new = Untouched old new ⊎ ((halves : List ℕ) × (dropped : ℕ) × IsRead p old halves dropped × IsSaved p.output (output_of halves) old new)
 
 -- what each ending of `harden IN OUT` says
 abbrev pub EndsAs : Pair → Files → Files → Screen → Screen → Ending → Type 0
-EndsAs p old new screen after Done = (halves : List ℕ) × IsDone p old new screen after halves
+EndsAs p old new screen after Done = (halves : List ℕ) × (dropped : ℕ) × IsDone p old new screen after halves dropped
 EndsAs p old new screen after (Refused spot) = IsRefusedFor p old new screen after spot
 EndsAs p old new screen after Usage = ⊥
 EndsAs p old new screen after ReadFault = IsUnread p old new screen after
-EndsAs p old new screen after WriteFault = (halves : List ℕ) × IsUnsaved p old new screen after halves
-EndsAs p old new screen after PrintFault = (halves : List ℕ) × IsUnsaid p old new screen after halves
+EndsAs p old new screen after WriteFault = (halves : List ℕ) × (dropped : ℕ) × IsUnsaved p old new screen after halves dropped
+EndsAs p old new screen after PrintFault = (halves : List ℕ) × (dropped : ℕ) × IsUnsaid p old new screen after halves dropped
 EndsAs p old new screen after NoMemory = IsUntouchedOrSaved p old new × IsToldOf no_memory_line screen after
 
 -- Counts of faults never fall. They rise only where the outside fails.

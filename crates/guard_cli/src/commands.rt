@@ -93,8 +93,8 @@ fn save_and_print<S: Shelf, K: Sink>(
 ) -> Ending
     ensures one { let files = files_seen S.tells S.file S.steady S.load_faults S.save_faults in
         let screen = screen_seen K.tells K.written K.steady K.faults in
-        (p : Pair) (halves : List ℕ) → p.output ≡ output.now → IsRead p (files shelf.old) halves →
-        made.now.file.items ≡ output_of halves → string_bytes made.now.report ≡ report_of (record { input = []; output = output.now }) halves →
+        (p : Pair) (halves : List ℕ) (dropped : ℕ) → p.output ≡ output.now → IsRead p (files shelf.old) halves dropped →
+        made.now.file.items ≡ output_of halves → string_bytes made.now.report ≡ report_of (record { input = []; output = output.now }) halves dropped →
         EndsAs p (files shelf.old) (files shelf.new) (screen out.old) (screen out.new) result }
     ensures was_read { result ≢ Ending.ReadFault }
     ensures counts { let files = files_seen S.tells S.file S.steady S.load_faults S.save_faults in

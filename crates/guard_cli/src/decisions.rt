@@ -1,13 +1,14 @@
 //! What is made of an input before anything is saved.
 
-ghost use Rattle.std.specs.Prelude.{◌≡◌, ◌*◌, ◌≤◌, ℕ, List, [], IfOk, IfErr, string_bytes};
-ghost use Rattle.elf_read.specs.FirstForm.{IsFirstObject, first_object, at_start};
+ghost use Rattle.std.specs.Prelude.{◌≡◌, ◌*◌, ◌≤◌, ℕ, List, [], length, IfOk, IfErr, string_bytes};
+ghost use Rattle.guard_cli.specs.FirstForm.{code_bytes, at_start};
 ghost use Rattle.guard_cli.specs.Runs.{output_of, report_of};
 ghost use Rattle.guard_cli.specs.Outcomes.{IsDecided, IsTurnedDown};
 
-use crate::form::{code_of, hardened_file};
+use crate::first::first_code;
+use crate::form::hardened_file;
 use crate::texts::{Counts, report_text};
-use elf_model::{Deny, Limit, Object, Refusal, Spot};
+use elf_model::{Deny, Limit, Refusal, Spot};
 use elf_read::read_object;
 use std::alloc::{AllocError, Global};
 
@@ -20,31 +21,33 @@ pub(crate) struct Decided {
 
 /// The hardened file of an input and the report on it, or why there is none.
 pub(crate) fn decide(alloc: Global, output: &str, bytes: &[u8]) -> Result<Decided, Deny>
-    ensures decided { IfOk result (λ made. (halves : List ℕ) × IsDecided output.now bytes.now made.file.items (string_bytes made.report) halves) }
+    ensures decided { IfOk result (λ made. (halves : List ℕ) × (dropped : ℕ) × IsDecided output.now bytes.now made.file.items (string_bytes made.report) halves dropped) }
     ensures refused { IfErr result (IsTurnedDown bytes.now) }
 {
     if bytes.len() > Limit::INPUT.file as usize {
         return Err(Deny::Refused(at_start(Refusal::TooLong)));
     }
     let read = read_object(alloc, bytes, &Limit::INPUT)?;
-    Ok(make(alloc, output, &read.object)?)
+    let Some(code) = first_code(&read.object) else {
+        return Err(Deny::Refused(at_start(Refusal::NotYet)));
+    };
+    Ok(make(alloc, output, code, read.dropped)?)
 }
 
-/// The hardened file of an object, and the report on it.
-fn make(alloc: Global, output: &str, object: &Object) -> Result<Decided, AllocError>
-    requires { IsFirstObject object.now }
-    ensures file { IfOk result (λ made. (halves : List ℕ) → object.now ≡ first_object halves → made.file.items ≡ output_of halves) }
-    ensures report { IfOk result (λ made. (halves : List ℕ) → object.now ≡ first_object halves →
-        string_bytes made.report ≡ report_of (record { input = []; output = output.now }) halves) }
+/// The hardened file of code of the first form, and the report on it.
+fn make(alloc: Global, output: &str, code: &[u8], dropped: u32) -> Result<Decided, AllocError>
+    requires { length code.now ≤ 65536 }
+    ensures file { IfOk result (λ made. (halves : List ℕ) → code.now ≡ code_bytes halves → made.file.items ≡ output_of halves) }
+    ensures report { IfOk result (λ made. (halves : List ℕ) → code.now ≡ code_bytes halves →
+        string_bytes made.report ≡ report_of (record { input = []; output = output.now }) halves dropped) }
 {
-    let instructions = (code_of(object).len() / 2) as u32;
-    let file = hardened_file(alloc, object)?;
-    let report = report_text(alloc, output, &counts_of(instructions))?;
+    let file = hardened_file(alloc, code)?;
+    let report = report_text(alloc, output, &counts_of((code.len() / 2) as u32, dropped))?;
     Ok(Decided { file, report })
 }
 
 /// What is counted of a function whose instructions are hardened by doubling.
-fn counts_of(instructions: u32) -> Counts
+fn counts_of(instructions: u32, dropped: u32) -> Counts
     requires { instructions ≤ 32768 }
     ensures { result ≡ record {
       functions = 1;
@@ -52,7 +55,7 @@ fn counts_of(instructions: u32) -> Counts
       after = 2 * instructions;
       old_bytes = 2 * instructions;
       new_bytes = 4 * instructions;
-      dropped = 0;
+      dropped = dropped;
       factor = 2;
     } }
 {
@@ -62,7 +65,7 @@ fn counts_of(instructions: u32) -> Counts
         after: 2 * instructions,
         old_bytes: 2 * instructions,
         new_bytes: 4 * instructions,
-        dropped: 0,
+        dropped,
         factor: 2,
     }
 }

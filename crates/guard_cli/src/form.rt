@@ -4,29 +4,18 @@ ghost use Rattle.std.specs.Prelude.{◌≡◌, ◌≤◌, ◌*◌, ◌++◌, ℕ
 ghost use Rattle.std.specs.List.{flat_map};
 ghost use Rattle.elf_model.specs.Fields.{half, word};
 ghost use Rattle.elf_model.specs.Maps.{row_bytes};
-ghost use Rattle.elf_read.specs.FirstForm.{IsFirstObject, first_object, code_bytes};
+ghost use Rattle.guard_cli.specs.FirstForm.{code_bytes};
 ghost use Rattle.guard_cli.specs.Output.{rows_from};
 ghost use Rattle.guard_cli.specs.Runs.{output_of};
 ghost use Rattle.guard_cli.specs.HardenedFile.{symbols_at, head, tables, header_words, doubled_bytes};
 
-use elf_model::Object;
 use std::alloc::{AllocError, Global};
 
-/// The code of an object of the first form.
-pub(crate) fn code_of(object: &Object) -> &[u8]
-    requires { IsFirstObject object.now }
-    ensures code { (halves : List ℕ) → object.now ≡ first_object halves → result.now ≡ code_bytes halves }
-    ensures short { length result.now ≤ 65536 }
+/// The file of the object of the first form with this code, whose instructions stand twice.
+pub(crate) fn hardened_file(alloc: Global, code: &[u8]) -> Result<Vec<u8>, AllocError>
+    requires { length code.now ≤ 65536 }
+    ensures { IfOk result (λ file. (halves : List ℕ) → code.now ≡ code_bytes halves → file.items ≡ output_of halves) }
 {
-    object.sections()[0].bytes.as_slice()
-}
-
-/// The file of an object of the first form whose instructions stand twice.
-pub(crate) fn hardened_file(alloc: Global, object: &Object) -> Result<Vec<u8>, AllocError>
-    requires { IsFirstObject object.now }
-    ensures { IfOk result (λ file. (halves : List ℕ) → object.now ≡ first_object halves → file.items ≡ output_of halves) }
-{
-    let code = code_of(object);
     let instructions = (code.len() / 2) as u32;
     let mut file = Vec::new(alloc);
     push_head(&mut file, instructions)?;

@@ -4,6 +4,7 @@
 mod commands;
 mod decisions;
 mod endings;
+mod first;
 mod form;
 #[cfg(test)]
 mod tests;
@@ -11,9 +12,8 @@ mod texts;
 mod words;
 
 ghost use Rattle.std.specs.Prelude.{◌≡◌, ◌≢◌, ◌↔◌, ◌+◌, List, [], ◌∷◌, ℕ, map, Some, IsTrue, IsSome, string_bytes};
-ghost use Rattle.elf_read.specs.FirstForm.{HasFirstForm};
 ghost use Rattle.guard_cli.specs.Words.{Pair, IsHarden, IsCommand};
-ghost use Rattle.guard_cli.specs.Runs.{files_seen, screen_seen, EndsAs, IsMisused, IsRefusedAtOnce, CountsGrow, CountsStay, IsCalm, IsDoneOrNoMemory};
+ghost use Rattle.guard_cli.specs.Runs.{files_seen, screen_seen, EndsAs, IsMisused, IsRefusedAtOnce, CountsGrow, CountsStay, IsCalm, IsHandled, IsDoneOrNoMemory};
 
 use crate::commands::{harden_pair, tell, tell_made};
 use crate::decisions::at_start;
@@ -53,7 +53,7 @@ pub fn guard_main<S: Shelf, K: Sink>(
     ensures complete { let files = files_seen S.tells S.file S.steady S.load_faults S.save_faults in
         let screen = screen_seen K.tells K.written K.steady K.faults in
         (p : Pair) (file : List ℕ) → IsHarden (map string_bytes words.now) (p ∷ []) → IsTrue (S.tells shelf.old) →
-        S.file shelf.old p.input ≡ Some file → HasFirstForm file →
+        S.file shelf.old p.input ≡ Some file → IsHandled file →
         IsCalm (files shelf.old) (files shelf.new) (screen out.old) (screen out.new) → IsDoneOrNoMemory result }
 
     // Counts of faults never fall, and stay where the shelf and the output are steady and the input is there.

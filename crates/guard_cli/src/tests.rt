@@ -40,8 +40,29 @@ const HARDENED: [u8; 436] = [
     0, 0, 0, 0, 146, 0, 0, 0, 48, 0, 0, 0, 0, 0, 0, 0, 0, 0, 0, 0, 1, 0, 0, 0, 0, 0, 0, 0,
 ];
 
+/// The file of the plain code with a section `.debug_info` of three bytes, made by other tools.
+const WITH_DEBUG: [u8; 400] = [
+    127, 69, 76, 70, 1, 1, 1, 0, 0, 0, 0, 0, 0, 0, 0, 0, 1, 0, 40, 0, 1, 0, 0, 0, 0, 0, 0, 0, 0, 0,
+    0, 0, 160, 0, 0, 0, 0, 0, 0, 5, 52, 0, 0, 0, 0, 0, 40, 0, 6, 0, 5, 0, 5, 32, 112, 71, 1, 2, 3,
+    0, 0, 0, 0, 0, 0, 0, 0, 0, 0, 0, 0, 0, 0, 0, 0, 0, 1, 0, 0, 0, 0, 0, 0, 0, 0, 0, 0, 0, 0, 0, 1,
+    0, 4, 0, 0, 0, 1, 0, 0, 0, 4, 0, 0, 0, 18, 0, 1, 0, 0, 36, 116, 0, 102, 0, 0, 46, 116, 101,
+    120, 116, 0, 46, 100, 101, 98, 117, 103, 95, 105, 110, 102, 111, 0, 46, 115, 121, 109, 116, 97,
+    98, 0, 46, 115, 116, 114, 116, 97, 98, 0, 46, 115, 104, 115, 116, 114, 116, 97, 98, 0, 0, 0, 0,
+    0, 0, 0, 0, 0, 0, 0, 0, 0, 0, 0, 0, 0, 0, 0, 0, 0, 0, 0, 0, 0, 0, 0, 0, 0, 0, 0, 0, 0, 0, 0, 0,
+    0, 0, 0, 0, 0, 0, 1, 0, 0, 0, 1, 0, 0, 0, 6, 0, 0, 0, 0, 0, 0, 0, 52, 0, 0, 0, 4, 0, 0, 0, 0,
+    0, 0, 0, 0, 0, 0, 0, 4, 0, 0, 0, 0, 0, 0, 0, 7, 0, 0, 0, 1, 0, 0, 0, 0, 0, 0, 0, 0, 0, 0, 0,
+    56, 0, 0, 0, 3, 0, 0, 0, 0, 0, 0, 0, 0, 0, 0, 0, 1, 0, 0, 0, 0, 0, 0, 0, 19, 0, 0, 0, 2, 0, 0,
+    0, 0, 0, 0, 0, 0, 0, 0, 0, 60, 0, 0, 0, 48, 0, 0, 0, 4, 0, 0, 0, 2, 0, 0, 0, 4, 0, 0, 0, 16, 0,
+    0, 0, 27, 0, 0, 0, 3, 0, 0, 0, 0, 0, 0, 0, 0, 0, 0, 0, 108, 0, 0, 0, 6, 0, 0, 0, 0, 0, 0, 0, 0,
+    0, 0, 0, 1, 0, 0, 0, 0, 0, 0, 0, 35, 0, 0, 0, 3, 0, 0, 0, 0, 0, 0, 0, 0, 0, 0, 0, 114, 0, 0, 0,
+    45, 0, 0, 0, 0, 0, 0, 0, 0, 0, 0, 0, 1, 0, 0, 0, 0, 0, 0, 0,
+];
+
 const REPORT: &str =
     "b.o: 1 functions, 2 -> 4 instructions, 4 -> 8 bytes, 0 dropped, factor 2\nfactor 2\n";
+
+const REPORT_OF_ONE_DROPPED: &str =
+    "b.o: 1 functions, 2 -> 4 instructions, 4 -> 8 bytes, 1 dropped, factor 2\nfactor 2\n";
 
 const USAGE: &str = "usage: skipguard harden, link, run, list or make\n";
 
@@ -96,16 +117,22 @@ fn run(rt: &impl Abort, alloc: Global, row: &Row<'_>) -> Result<(), Fail> {
 
 #[test]
 fn hardens_the_smallest_code(rt: HostRuntime) -> Result<(), Fail> {
-    let row = Row {
-        words: "harden a.o b.o",
-        input: &PLAIN,
-        shelf_fails: &[],
-        sink_fails: &[],
-        status: 0,
-        text: REPORT,
-        output: Some(&HARDENED),
-    };
-    run(&rt, rt.alloc(), &row)
+    for (input, text) in [
+        (PLAIN.as_slice(), REPORT),
+        (WITH_DEBUG.as_slice(), REPORT_OF_ONE_DROPPED),
+    ] {
+        let row = Row {
+            words: "harden a.o b.o",
+            input,
+            shelf_fails: &[],
+            sink_fails: &[],
+            status: 0,
+            text,
+            output: Some(&HARDENED),
+        };
+        run(&rt, rt.alloc(), &row)?;
+    }
+    Ok(())
 }
 
 fn refuses<'a>(rt: &impl Abort, alloc: Global, input: &'a [u8], text: &'a str) -> Result<(), Fail> {
@@ -128,6 +155,10 @@ fn refuses_other_files(rt: HostRuntime) -> Result<(), Fail> {
     let mut adds = PLAIN;
     adds[52] = 0x01;
     adds[53] = 0x30;
+    let mut wide = PLAIN;
+    wide[4] = 2;
+    let mut empty = PLAIN;
+    empty[48] = 0;
     for (input, text) in [
         (
             long.as_slice(),
@@ -139,7 +170,15 @@ fn refuses_other_files(rt: HostRuntime) -> Result<(), Fail> {
         ),
         (&[], "a.o: refused 1 NotElf section 0 offset 0\n"),
         (&PLAIN[..51], "a.o: refused 1 NotElf section 0 offset 0\n"),
-        (&PLAIN[..52], "a.o: refused 32 NotYet section 0 offset 0\n"),
+        (
+            wide.as_slice(),
+            "a.o: refused 2 NotArmRel section 0 offset 4\n",
+        ),
+        (
+            &PLAIN[..80],
+            "a.o: refused 3 BadTable section 0 offset 32\n",
+        ),
+        (&empty[..52], "a.o: refused 32 NotYet section 0 offset 0\n"),
         (
             adds.as_slice(),
             "a.o: refused 32 NotYet section 0 offset 0\n",

@@ -1,45 +1,34 @@
-use Rattle.std.proofs.Common.{◌≡◌, not, sym, ap, ◌∙◌, Bool, true, false, refl, rules}
-use Rattle.std.proofs.lemmas.Bool.{false≢true}
-use Rattle.std.proofs.lemmas.Slice.Eq.{bytes_eq-Decides}
-use Rattle.elf_model.specs.Canonical.{canonical}
-use Rattle.elf_read.specs.FirstFile.{first_file}
-use Rattle.elf_read.proofs.Frame.{canonical-first}
-use Rattle.elf_read.proofs.Moves.{first_short}
-use Rattle.elf_read.proofs.Refusing.{not_yet}
-use Rattle.elf_read.proofs.Standing.{stands_first}
+use Rattle.std.proofs.Common.{subst}
+use Rattle.elf_model.specs.declared.refusals.Limit.{Limit}
+use Rattle.elf_read.specs.Faults.{IsFaultless, IsFaultlessBelow}
+use Rattle.elf_read.specs.FirstFaults.{IsFirstBelow}
+use Rattle.elf_read.proofs.Formed.{formed}
+use Rattle.elf_read.proofs.AllFaults.{all_faultless}
 use Rattle.elf_read.proofs.read_object.Goals as goal
 
-pub returns-in_default-clause-refused : goal.returns-in_default-clause-refused
-returns-in_default-clause-refused c =
-    not_yet c.args.bytes.now _ c.refused-in_default.ensures (c.is_elf.ensures.0 (search rules)) (λ code f e. c.in_default.ensures.found code f e)
+pub returns-in-Some-clause-refused : goal.returns-in-Some-clause-refused
+returns-in-Some-clause-refused c = (subst (IsFirstBelow c.args.bytes.now c.args.limit.now 6) c.in-Some.is (c.first_malformed.ensures c.args.limit.now)).1
 
-pub first_file-requires : goal.first_file-requires
-first_file-requires c = first_short _ c.in-Some.ensures.sound
+pub kept_flags-requires : goal.kept_flags-requires
+kept_flags-requires c = (formed c.args.bytes.now c.args.limit.now (subst (IsFirstBelow c.args.bytes.now c.args.limit.now 6) c.in_default.is (c.first_malformed.ensures c.args.limit.now))).tabled
 
-pub first_object-requires : goal.first_object-requires
-first_object-requires c = first_short _ c.in-Some.ensures.sound
+pub symbol_flags-requires-clause-tabled : goal.symbol_flags-requires-clause-tabled
+symbol_flags-requires-clause-tabled c = (formed c.args.bytes.now c.args.limit.now (subst (IsFirstBelow c.args.bytes.now c.args.limit.now 6) c.in_default.is (c.first_malformed.ensures c.args.limit.now))).tabled
 
-pub returns-then-ne-clause-refused : goal.returns-then-ne-clause-refused
-returns-then-ne-clause-refused c =
-    let bytes = c.args.bytes.now in
-    not_yet bytes _ c.refused-then-ne.ensures (c.is_elf.ensures.0 (search rules)) (λ code f e.
-    let same = c.in-Some.ensures.found code f e in
-    let file = c.as_slice.ensures.value ∙ c.in_ok-file.ensures ∙ ap first_file same ∙ sym e in
-    let equal = (bytes_eq-Decides _ bytes).1 file in
-    false≢true (sym (ap not equal) ∙ sym c.ne.ensures ∙ c.if-ne.true))
+pub first_unfit-requires-clause-tabled : goal.first_unfit-requires-clause-tabled
+first_unfit-requires-clause-tabled c = (formed c.args.bytes.now c.args.limit.now (subst (IsFirstBelow c.args.bytes.now c.args.limit.now 6) c.in_default.is (c.first_malformed.ensures c.args.limit.now))).tabled
 
-not_not : (b : Bool) → not b ≡ false → b ≡ true
-not_not true h = refl
-not_not false h = cc
+pub first_unfit-requires-clause-homes : goal.first_unfit-requires-clause-homes
+first_unfit-requires-clause-homes c = (formed c.args.bytes.now c.args.limit.now (subst (IsFirstBelow c.args.bytes.now c.args.limit.now 6) c.in_default.is (c.first_malformed.ensures c.args.limit.now))).homes
 
-file_is : goal.returns-clause-file
-file_is c =
-    let same = (bytes_eq-Decides _ c.args.bytes.now).0 (not_not _ (sym c.ne.ensures ∙ c.if-ne.false)) in
-    sym same ∙ c.as_slice.ensures.value ∙ c.in_ok-file.ensures ∙ sym (canonical-first c.in-Some.code.now) ∙ ap canonical (sym c.in_ok-object.ensures)
+pub read_whole-requires-clause-faultless : goal.read_whole-requires-clause-faultless
+read_whole-requires-clause-faultless c = all_faultless c.args.bytes.now c.args.limit.now (subst (IsFirstBelow c.args.bytes.now c.args.limit.now 9) c.in_default-2.is c.in_ok-spot.ensures)
 
-pub returns-clause-file : goal.returns-clause-file
-returns-clause-file c = file_is c
+pub read_whole-requires-clause-tabled : goal.read_whole-requires-clause-tabled
+read_whole-requires-clause-tabled c = (formed c.args.bytes.now c.args.limit.now (subst (IsFirstBelow c.args.bytes.now c.args.limit.now 6) c.in_default.is (c.first_malformed.ensures c.args.limit.now))).tabled
 
-pub returns-clause-object : goal.returns-clause-object
-returns-clause-object c =
-    stands_first c.args.bytes.now c.in-Some.code.now _ (first_short _ c.in-Some.ensures.sound) (file_is c) c.in_ok-object.ensures
+pub read_whole-requires-clause-homes : goal.read_whole-requires-clause-homes
+read_whole-requires-clause-homes c = (formed c.args.bytes.now c.args.limit.now (subst (IsFirstBelow c.args.bytes.now c.args.limit.now 6) c.in_default.is (c.first_malformed.ensures c.args.limit.now))).homes
+
+pub returns-clause-faultless : goal.returns-clause-faultless
+returns-clause-faultless c = all_faultless c.args.bytes.now c.args.limit.now (subst (IsFirstBelow c.args.bytes.now c.args.limit.now 9) c.in_default-2.is c.in_ok-spot.ensures)

@@ -12,9 +12,9 @@ returns-in-Ok-clause-one g c =
     let files = files_seen g.S.Shelf.tells g.S.Shelf.file g.S.Shelf.steady g.S.Shelf.load_faults g.S.Shelf.save_faults in
     let p : Pair = record { input = c.args.input.now; output = c.args.output.now } in
     let decided = c.in-Ok.ensures.decided in
-    let d = decided.1 in
-    let read = read_of p (files c.args.shelf.now) 1048577 c.args.output.now c.args.bytes.now c.in-Ok.made.file.items (string_bytes c.in-Ok.made.report) decided.0 c.requires (omega arith) d in
-    c.save_and_print.ensures.one p decided.0 refl read d.file_is d.report_is
+    let d = decided.2 in
+    let read = read_of p (files c.args.shelf.now) 1048577 c.args.output.now c.args.bytes.now c.in-Ok.made.file.items (string_bytes c.in-Ok.made.report) decided.0 decided.1 c.requires (omega arith) d in
+    c.save_and_print.ensures.one p decided.0 decided.1 refl read d.file_is d.report_is
 
 pub returns-in-Err-Refused-clause-one : goal.returns-in-Err-Refused-clause-one
 returns-in-Err-Refused-clause-one g c =

@@ -6,20 +6,20 @@ use Rattle.guard_cli.proofs.Carried.{ends_saved, saved_as, half_saved_as, report
 use Rattle.guard_cli.proofs.commands.save_and_print.Goals as goal
 
 pub returns-in-Ok-clause-one : goal.returns-in-Ok-clause-one
-returns-in-Ok-clause-one g c = λ p halves name_is read file_is report_is.
+returns-in-Ok-clause-one g c = λ p halves dropped name_is read file_is report_is.
     let files = files_seen g.S.Shelf.tells g.S.Shelf.file g.S.Shelf.steady g.S.Shelf.load_faults g.S.Shelf.save_faults in
     let screen = screen_seen g.K.Sink.tells g.K.Sink.written g.K.Sink.steady g.K.Sink.faults in
     let old = files c.args.shelf.now in
     let new = files c.save.new.self in
     let others = c.in-Ok.ensures.others in
     let saved : IsSaved c.args.output.now c.deref.result.now old new = record { others = record { told = others.told; each = others.each }; whole = c.in-Ok.ensures.saved } in
-    let report = c.deref-in-Ok.ensures ∙ report_is ∙ report_as p halves c.args.output.now name_is in
+    let report = c.deref-in-Ok.ensures ∙ report_is ∙ report_as p halves dropped c.args.output.now name_is in
     let said = subst (λ r. ReportEndsAs r (screen c.args.out.now) (screen c.print.new.out) c.print.result) report c.print.ensures.ending in
-    ends_saved p halves old new (screen c.args.out.now) (screen c.print.new.out) c.print.result read
+    ends_saved p halves dropped old new (screen c.args.out.now) (screen c.print.new.out) c.print.result read
     (saved_as p halves c.args.output.now c.deref.result.now c.args.made.now.file.items old new name_is c.deref.ensures.value file_is saved) said
 
 pub returns-in-Err-Failed-clause-one : goal.returns-in-Err-Failed-clause-one
-returns-in-Err-Failed-clause-one g c = λ p halves name_is read file_is report_is.
+returns-in-Err-Failed-clause-one g c = λ p halves dropped name_is read file_is report_is.
     let files = files_seen g.S.Shelf.tells g.S.Shelf.file g.S.Shelf.steady g.S.Shelf.load_faults g.S.Shelf.save_faults in
     let screen = screen_seen g.K.Sink.tells g.K.Sink.written g.K.Sink.steady g.K.Sink.faults in
     let old = files c.args.shelf.now in
@@ -29,6 +29,7 @@ returns-in-Err-Failed-clause-one g c = λ p halves name_is read file_is report_i
     let saved : IsHalfSaved c.args.output.now c.deref.result.now old new = record { others = record { told = others.told; each = others.each }; part = c.save.ensures.part failed } in
     let said = c.tell_made.ensures.told (write_fault_line c.args.output.now) c.write_fault_text.ensures in (
       halves,
+      dropped,
       record {
         read = read;
         cause = c.save.ensures.failed failed;

@@ -5,4 +5,4 @@ use Rattle.guard_cli.proofs.decisions.make.Goals as goal
 pub returns-clause-report : goal.returns-clause-report
 returns-clause-report c = λ halves e.
     c.in_ok-report.ensures ∙
-    reported c.args.output.now halves c.code_of.result.now (length c.code_of.result.now / 2) c.counts_of.result (c.code_of.ensures.code halves e) refl c.counts_of.ensures
+    reported c.args.output.now halves c.args.code.now c.args.dropped (length c.args.code.now / 2) c.counts_of.result e refl c.counts_of.ensures

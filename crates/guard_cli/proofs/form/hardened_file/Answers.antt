@@ -4,5 +4,5 @@ use Rattle.guard_cli.proofs.form.hardened_file.Goals as goal
 
 pub returns : goal.returns
 returns c = λ halves e.
-    written halves c.code_of-code.result.now (length c.code_of-code.result.now / 2) _ _ _ _ _ _ (c.code_of-code.ensures.code halves e) refl
+    written halves c.args.code.now (length c.args.code.now / 2) _ _ _ _ _ _ e refl
     c.new-file.ensures.items c.in_ok-push_head.ensures c.in_ok-push_doubled.ensures c.in_ok-push_rows.ensures c.in_ok-push_tables.ensures c.in_ok-push_headers.ensures

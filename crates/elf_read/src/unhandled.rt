@@ -1,0 +1,77 @@
+//! The first section of a kind that is not handled.
+
+ghost use Rattle.std.specs.Prelude.{◌≡◌, ◌<◌, ◌^◌, ℕ, length};
+ghost use Rattle.elf_model.specs.declared.refusals.Refusal.TheVariants.{SectionKind};
+ghost use Rattle.elf_model.specs.Fields.{same_name};
+ghost use Rattle.elf_model.specs.Files.{section_name};
+ghost use Rattle.elf_model.specs.Maps.{map_name};
+ghost use Rattle.elf_read.specs.Faults.{Fault, IsHeader, is_input_limit};
+ghost use Rattle.elf_read.specs.HeaderFaults.{IsTabled};
+ghost use Rattle.elf_read.specs.Keeping.{kind_tests};
+ghost use Rattle.elf_read.specs.Places.{IsLowest, first_of};
+
+use crate::headers::{count, header_at, place};
+use crate::keeping::{is_dropped, section_name};
+use crate::kinds::{is_alloc, is_exec, is_memory_kind, is_refused_kind, is_table, is_writable};
+use crate::places::Place;
+use crate::tables::NOBITS;
+use elf_model::Limit;
+
+/// Whether the limit is that of `harden`.
+fn is_input_limit(limit: &Limit) -> bool
+    ensures { result ≡ is_input_limit limit.now }
+{
+    limit.file == 1_048_576
+        && limit.sections == 256
+        && limit.symbols == 16_384
+        && limit.relocs == 65_536
+        && limit.code == 65_536
+}
+
+/// Whether a section has the name of an address map.
+fn is_map(bytes: &[u8], h: usize) -> bool
+    requires tabled { IsTabled bytes.now }
+    requires listed { IsHeader bytes.now h }
+    ensures { result ≡ same_name (section_name bytes.now h) map_name }
+{
+    section_name(bytes, h) == b".skipguard.map".as_slice()
+}
+
+/// The first offset of a section header, from its start, at which it is of no kind that is handled.
+fn kind_fault(bytes: &[u8], h: usize, input: bool) -> Option<u32>
+    requires tabled { IsTabled bytes.now }
+    requires listed { IsHeader bytes.now h }
+    ensures { result ≡ first_of (kind_tests bytes.now input h) }
+{
+    let header = header_at(bytes, h);
+    if input && is_map(bytes, h) {
+        return Some(0);
+    }
+    if is_refused_kind(header.kind)
+        || is_alloc(header.flags)
+            && (!is_memory_kind(header.kind) && (is_table(header.kind) || !is_dropped(bytes, h)))
+    {
+        return Some(4);
+    }
+    if is_exec(header.flags) && (is_writable(header.flags) || header.kind == NOBITS) {
+        return Some(8);
+    }
+    None
+}
+
+/// The first place at which a section is of a kind that is not handled.
+pub(crate) fn first_bad_kind(bytes: &[u8], limit: &Limit) -> Option<Place>
+    requires tabled { IsTabled bytes.now }
+    requires small { length bytes.now < 2 ^ 32 }
+    ensures { IsLowest (Fault bytes.now limit.now SectionKind) result }
+{
+    let input = is_input_limit(limit);
+    for h in 1..count(bytes) {
+        if let Some(field) = kind_fault(bytes, h, input) {
+            let offset = place(bytes, h) as u32 + field;
+            let section = h as u32;
+            return Some(Place { section, offset });
+        }
+    }
+    None
+}
