@@ -22,3 +22,4 @@ pub mod SoundParts
 pub mod SoundOrder
 pub mod SoundObject
 pub mod AllFaults
+pub mod ShortNames

@@ -1,7 +1,8 @@
 //! Which sections and symbols of a file are kept.
 
 ghost use Rattle.std.specs.Prelude.{◌≡◌, ◌≤◌, ◌<◌, ◌+◌, ◌^◌, ℕ, List, length, IfOk, OnOk, Some, map, ◌++◌, ◌-◌, ◌*◌, ◌/◌, not, ◌&&◌, ◌||◌, ◌==◌};
-ghost use Rattle.std.specs.Prelude.{◌≢◌, drop};
+ghost use Rattle.std.specs.Prelude.{◌≢◌, drop, take};
+ghost use Rattle.elf_model.specs.Fields.{half_at};
 ghost use Rattle.std.specs.List.{before_first};
 ghost use Rattle.elf_model.specs.Constants.{symtab, strtab, nobits};
 ghost use Rattle.elf_model.specs.Files.{header, header_count, contents, is_dropped, is_kept, is_kept_symbol, text_at, section_name, symbol_table, from, IsKind};
@@ -38,6 +39,13 @@ fn behind(text: &[u8], at: usize) -> &[u8]
     }
 }
 
+/// So many bytes, or all where there are fewer.
+fn front(text: &[u8], most: usize) -> &[u8]
+    ensures { result.now ≡ take most text.now }
+{
+    if most <= text.len() { &text[..most] } else { text }
+}
+
 /// The text at an offset of a string table, up to its NUL or to the table's end.
 pub(crate) fn text_at(bytes: &[u8], table: usize, at: usize) -> &[u8]
     requires tabled { IsTabled bytes.now }
@@ -46,6 +54,25 @@ pub(crate) fn text_at(bytes: &[u8], table: usize, at: usize) -> &[u8]
     ensures { result.now ≡ text_at bytes.now table at }
 {
     until_nul(behind(contents(bytes, table), at))
+}
+
+/// The text at an offset of a string table, of which no more bytes than these are looked at.
+fn text_start(bytes: &[u8], table: usize, at: usize, most: usize) -> &[u8]
+    requires tabled { IsTabled bytes.now }
+    requires listed { IsHeader bytes.now table }
+    requires stored { (header bytes.now table).kind ≢ nobits }
+    ensures { result.now ≡ before_first (λ c. c == 0) (take most (drop at (contents bytes.now table))) }
+{
+    until_nul(front(behind(contents(bytes, table), at), most))
+}
+
+/// The first bytes of the name of a section.
+pub(crate) fn name_start(bytes: &[u8], h: usize, most: usize) -> &[u8]
+    requires tabled { IsTabled bytes.now }
+    requires listed { h < header_count bytes.now }
+    ensures { result.now ≡ before_first (λ c. c == 0) (take most (drop (header bytes.now h).name (contents bytes.now (half_at bytes.now 50)))) }
+{
+    text_start(bytes, half(bytes, 50) as usize, header_at(bytes, h).name as usize, most)
 }
 
 /// The name of a section.

@@ -11,7 +11,7 @@ ghost use Rattle.elf_read.specs.Keeping.{kind_tests};
 ghost use Rattle.elf_read.specs.Places.{IsLowest, first_of};
 
 use crate::headers::{count, header_at, place};
-use crate::keeping::{is_dropped, section_name};
+use crate::keeping::{is_dropped, name_start};
 use crate::kinds::{is_alloc, is_exec, is_memory_kind, is_refused_kind, is_table, is_writable};
 use crate::places::Place;
 use crate::tables::NOBITS;
@@ -34,7 +34,7 @@ fn is_map(bytes: &[u8], h: usize) -> bool
     requires listed { IsHeader bytes.now h }
     ensures { result ≡ same_name (section_name bytes.now h) map_name }
 {
-    section_name(bytes, h) == b".skipguard.map".as_slice()
+    name_start(bytes, h, 15) == b".skipguard.map".as_slice()
 }
 
 /// The first offset of a section header, from its start, at which it is of no kind that is handled.
