@@ -7,7 +7,7 @@ use Rattle.thumb_instr.specs.declared.instructions.Instr.TheVariants.{Move, Jump
 use Rattle.thumb_instr.specs.declared.refusals.BadInstr.{BadInstr}
 use Rattle.thumb_instr.specs.declared.refusals.BadInstr.TheVariants.{Unknown, Unpredictable, PcOperand}
 use Rattle.thumb_instr.specs.declared.refusals.ItPlace.{ItPlace}
-use Rattle.thumb_instr.specs.declared.refusals.ItPlace.TheVariants.{Outside, Inside}
+use Rattle.thumb_instr.specs.declared.refusals.ItPlace.TheVariants.{Outside, Inside, Last}
 
 abbrev pub Answer : Type 0
 Answer = Result Instr BadInstr
