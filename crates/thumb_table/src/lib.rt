@@ -1,10 +1,14 @@
 //! The processor's state, memory and images, and the effect of an instruction on them.
 #![tactic(auto)]
 
+mod cores;
 mod faults;
+mod operands;
 mod parts;
 mod placements;
+mod stubs;
 
+pub use cores::{Core, it_after};
 pub use faults::FaultKind;
 pub use parts::{CodeBytes, Image, Memory, NamedEntry, Part, PlaceMark};
 pub use placements::Placement;
