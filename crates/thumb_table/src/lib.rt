@@ -3,10 +3,11 @@
 
 mod cores;
 mod faults;
+mod fetches;
+mod jumps;
 mod operands;
 mod parts;
 mod placements;
-mod stubs;
 
 pub use cores::{Core, it_after};
 pub use faults::FaultKind;

@@ -7,8 +7,7 @@ ghost use Rattle.thumb_table.specs.Steps.{OrdinaryOperand};
 ghost use Rattle.thumb_table.specs.Views.{alone};
 
 use crate::Core;
-use crate::stubs::{expand_imm, shift_c};
-use mark_word::{Mark, Shift, Shifted, Word};
+use mark_word::{Mark, Shift, Shifted, Word, expand_imm, shift_c};
 use thumb_instr::{MoveOp, Operand};
 
 /// The value of an operand, with the carry.

@@ -1,4 +1,0 @@
-use Rattle.thumb_table.proofs.stubs.shift_c.Goals as goal
-
-pub returns : goal.returns
-returns c = ?
