@@ -1,5 +1,5 @@
 -- The processor's registers, with memory beside them, as a state of the machine.
-use Rattle.std.specs.Prelude.{◌≡◌, ℕ, Bool, true, false, [], Result, Ok, Err, if◌then◌else◌}
+use Rattle.std.specs.Prelude.{◌≡◌, ℕ, ◌/◌, ◌^◌, ◌==◌, Bool, true, false, [], Result, Ok, Err, if◌then◌else◌}
 use Rattle.thumb_instr.specs.declared.instructions.Instr.{Instr}
 use Rattle.thumb_table.specs.declared.cores.Core.{Core as Registers}
 use Rattle.thumb_table.specs.declared.faults.FaultKind.{FaultKind}
@@ -20,6 +20,11 @@ alone s = core_of s (record { base = 0; cells = [] })
 -- the bytes of an instruction
 abbrev pub width_of : Bool → ℕ
 width_of wide = if wide then 4 else 2
+
+-- the flags of a result, where it sets them
+abbrev pub with_flags : Bool → ℕ → Bool → Registers → Registers
+with_flags false bits carry s = s
+with_flags true bits carry s = record s { n = bits / 2 ^ 31 == 1; z = bits == 0; c = carry }
 
 -- An instruction that doesn't reach memory makes these registers of those.
 abbrev pub Makes : Instr → ℕ → Registers → Registers → Type 0

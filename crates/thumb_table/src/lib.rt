@@ -2,14 +2,17 @@
 #![tactic(auto)]
 
 mod cores;
+mod effects;
 mod faults;
 mod fetches;
+mod images;
 mod jumps;
 mod operands;
 mod parts;
 mod placements;
 
 pub use cores::{Core, it_after};
+pub use effects::apply;
 pub use faults::FaultKind;
 pub use parts::{CodeBytes, Image, Memory, NamedEntry, Part, PlaceMark};
 pub use placements::Placement;
