@@ -1,0 +1,5 @@
+//! A machine that runs images under plans of skips.
+#![tactic(auto)]
+
+mod decodes;
+mod fetches;
