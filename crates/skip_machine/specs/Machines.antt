@@ -1,12 +1,11 @@
 -- A machine, and what its steps and runs do.
-use Rattle.std.specs.Prelude.{◌≡◌, ◌≢◌, ◌↔◌, ℕ, zero, suc, ◌+◌, ◌%◌, ◌^◌, ◌<◌, ◌≤◌, Bool, true, false, List, length, map, Result, Ok}
+use Rattle.std.specs.Prelude.{◌≡◌, ℕ, zero, suc, ◌+◌, ◌%◌, ◌^◌, ◌<◌, ◌≤◌, Bool, true, false, List, length, map, Some, Result, Ok}
 use Rattle.std.specs.List.Sorted.{IsStrictlyIncreasing}
 use Rattle.elf_model.specs.Canonical.{round_up}
 use Rattle.thumb_table.specs.declared.cores.Core.{Core as Registers}
 use Rattle.thumb_table.specs.Parts.{CodeBytes, Memory, Image}
 use Rattle.thumb_table.specs.States.{State}
-use Rattle.thumb_table.specs.Steps.{move, fetch, IsOrdinary}
-use Rattle.thumb_table.specs.Schedules.{run, exit}
+use Rattle.thumb_table.specs.Steps.{Fetched, move, fetch, skip_of, IsOrdinary}
 use Rattle.thumb_table.specs.Images.{run_cells, start_regs, even}
 use Rattle.thumb_table.specs.Views.{state_of}
 
@@ -59,6 +58,10 @@ started memory entry args = record {
   };
 }
 
+-- A skipped step makes these registers of those, whatever memory has.
+abbrev pub PassesOver : Fetched → Registers → Registers → Type 0
+PassesOver f s t = (m : Memory) → skip_of (Some f) (state_of s m) ≡ Ok (state_of t m)
+
 -- A step from a state is ordinary, where it isn't skipped.
 abbrev pub OrdinaryStep : CodeBytes → Bool → State → Type 0
 OrdinaryStep code skipped s = skipped ≡ false → IsOrdinary code (fetch code s.pc) s
@@ -68,11 +71,3 @@ abbrev pub OrdinarySteps : CodeBytes → (ℕ → Bool) → ℕ → ℕ → Stat
 OrdinarySteps code skips zero i s = Unit {0}
 OrdinarySteps code skips (suc n) i s =
     OrdinaryStep code (skips i) s × ((next : State) → move code (skips i) s ≡ Ok next → OrdinarySteps code skips n (suc i) next)
-
--- A machine made so many steps more, none of which faulted. It has not returned before the last of them.
-pub record Went (skips : ℕ → Bool) (old new : Machine) (n : ℕ) : Type 0 where
-  pub counted : new.steps ≡ old.steps + n
-  pub same_code : new.code ≡ old.code
-  pub runs : run old.code skips n old.steps (state old) ≡ Ok (state new)
-  pub not_before : (j : ℕ) (s : State) → 0 < j → j < n → run old.code skips j old.steps (state old) ≡ Ok s → s.pc ≢ exit
-  pub ordinary : (new.ordinary ≡ true) ↔ ((old.ordinary ≡ true) × OrdinarySteps old.code skips n old.steps (state old))

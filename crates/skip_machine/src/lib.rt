@@ -3,3 +3,9 @@
 
 mod decodes;
 mod fetches;
+mod machines;
+mod moves;
+mod plans;
+
+pub use machines::{Machine, Moved, Outcome};
+pub use plans::Plan;
