@@ -1,7 +1,7 @@
 -- Members of schedules.
-use Rattle.std.proofs.Common.{◌≡◌, ◌≢◌, ℕ, zero, suc, ◌+◌, ◌-◌, ◌<◌, ◌≤◌, ◌==◌, ◌||◌, Bool, true, false, List, [], ◌∷◌, length, get_or, Result, Ok, Err, MatchResult, IsTrue, arith, refl, sym, ◌∙◌, eq-eqb, eqb-eq}
+use Rattle.std.proofs.Common.{◌≡◌, ◌≢◌, ℕ, zero, suc, ◌+◌, ◌-◌, ◌<◌, ◌≤◌, ◌==◌, ◌||◌, Bool, true, false, List, [], ◌∷◌, length, get_or, Result, Ok, Err, MatchResult, IsTrue, arith, refl, sym, ◌∙◌, eq-eqb}
 use Rattle.std.specs.Prelude.{is_ok}
-use Rattle.std.proofs.lemmas.Bool.{false≢true}
+use Rattle.std.proofs.lemmas.Bool.{false≢true, eqb-true}
 use Rattle.thumb_table.specs.Schedules.{is_in}
 
 -- what stands in a list is in it
@@ -18,7 +18,7 @@ place_of (x ∷ xs) i h = go (place_of xs i) (x == i) refl h
   where
     go : (is_in xs i ≡ true → (k : ℕ) × (k < length xs) × (get_or xs k 0 ≡ i)) → (t : Bool) → (x == i) ≡ t → (t || is_in xs i) ≡ true
         → (k : ℕ) × (k < length (x ∷ xs)) × (get_or (x ∷ xs) k 0 ≡ i)
-    go later true e h = (0, omega arith, eqb-eq x i e)
+    go later true e h = (0, omega arith, eqb-true x i e)
     go later false e h = let there = later h in (suc there.0, omega (arith, there.1), there.2)
 
 -- what a search says of it
