@@ -216,6 +216,11 @@ abbrev pub entry_of : List NamedEntry → List ℕ → Option ℕ
 entry_of [] name = None
 entry_of (e ∷ rest) name = if same_name e.name name then Some e.address else entry_of rest name
 
+-- the bytes of an image: code, zeros up to its room, and data
+abbrev pub image_bytes : Image → List ℕ
+image_bytes image =
+    image.code.bytes ++ replicate (image.room - length image.code.bytes) 0 ++ map (λ c. c.byte) image.memory.cells
+
 -- the memory of a run: the data, rounded up to a multiple of 8, and the stack
 abbrev pub run_cells : Image → ℕ → List Cell
 run_cells image stack =

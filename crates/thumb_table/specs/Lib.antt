@@ -3,3 +3,4 @@ pub mod States
 pub mod Steps
 pub mod Schedules
 pub mod Images
+pub mod Views

@@ -1,0 +1,5 @@
+pub mod Members
+pub mod Arguments
+pub mod Sizes
+pub mod Walks
+pub mod Further

@@ -1,0 +1,4 @@
+pub mod Fetches
+pub mod Machines
+pub mod Runs
+pub mod Plans
