@@ -1,0 +1,2 @@
+pub mod SectionFacts
+pub mod Walks
