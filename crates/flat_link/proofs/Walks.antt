@@ -151,7 +151,7 @@ bytes_end sort e j k (s ∷ rest) h =
           let ends = ap (λ (t : ℕ). end_of sort t rest) (after_yes sort e s y) in
           let long = ap (λ (t : List Placed). length (bytes_from e t)) (parts_yes sort e j k s rest y)
               ∙ length-append (replicate (start - e) 0 ++ part_bytes s) (bytes_from (start + s.size) tail) in
-          omega (arith, more, ends, long, length-append (replicate (start - e) 0) (part_bytes s), length-replicate (start - e) 0, sized s p.0, r.0)
+          omega (arith, more, ends, long, length-append (replicate (start - e) 0) (part_bytes s), length-replicate {A = ℕ} (start - e) 0, sized s p.0, r.0)
       | inr n ↦
           let more = bytes_end sort e (j + 1) k rest p.1 in
           let ends = ap (λ (t : ℕ). end_of sort t rest) (after_no sort e s n) in
