@@ -1,3 +1,4 @@
+pub mod Made
 pub mod Placing
-pub mod Symbols
 pub mod Refusals
+pub mod Symbols

@@ -1,5 +1,5 @@
 -- Each cause for which objects are not linked, with its place: the number of the object and of the section.
-use Rattle.std.specs.Prelude.{◌≡◌, ◌<◌, ◌⊎◌, ℕ, ◌+◌, List, length, Contains, ⊤}
+use Rattle.std.specs.Prelude.{◌≡◌, ◌<◌, ◌⊎◌, ℕ, ◌+◌, List, length, Contains, ⊤, false}
 use Rattle.elf_model.specs.declared.refusals.Refusal.{Refusal}
 use Rattle.elf_model.specs.declared.refusals.Refusal.TheVariants.{Duplicate, DoesNotFit}
 use Rattle.elf_model.specs.declared.refusals.Spot.{Spot}
@@ -10,7 +10,9 @@ use Rattle.elf_model.specs.Objects.{ObjectParts}
 use Rattle.elf_model.specs.Canonical.{round_up}
 use Rattle.thumb_table.specs.declared.placements.Placement.{Placement}
 use Rattle.thumb_table.specs.Images.{Defined, globals, code_bytes_of, data_bytes_of}
-use Rattle.flat_link.specs.Symbols.{home_section, IsLowest}
+use Rattle.flat_link.specs.Placing.{can_fit}
+use Rattle.flat_link.specs.Symbols.{home_section, IsLowest, AreOnce}
+use Rattle.elf_model.specs.declared.objects.Section.{Section}
 use Rattle.elf_model.specs.declared.objects.Symbol.{Symbol}
 
 abbrev pub StandsBefore : Defined → Defined → Type 0
@@ -60,3 +62,16 @@ pub record IsDuplicate (symbols : List Symbol) (spot : Spot) : Type 0 where
 abbrev pub IsNameDenial : List Symbol → Deny → Type 0
 IsNameDenial symbols NoMemory = ⊤
 IsNameDenial symbols (Refused spot) = IsDuplicate symbols spot
+
+-- why an image is not made, where the names are good
+pub record IsTooLong (sections : List Section) (symbols : List Symbol) (at : Placement) (spot : Spot) : Type 0 where
+  pub once : AreOnce symbols
+  pub long : can_fit sections at ≡ false
+  pub refusal : spot.refusal ≡ DoesNotFit
+  pub file : spot.file ≡ 0
+  pub section : spot.section ≡ 0
+  pub offset : spot.offset ≡ 0
+
+abbrev pub IsOneDenial : List Section → List Symbol → Placement → Deny → Type 0
+IsOneDenial sections symbols at NoMemory = ⊤
+IsOneDenial sections symbols at (Refused spot) = IsDuplicate symbols spot ⊎ IsTooLong sections symbols at spot

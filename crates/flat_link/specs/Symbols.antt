@@ -1,5 +1,5 @@
 -- What the linker makes of an object's symbols: places of functions, of data in code, and of names.
-use Rattle.std.specs.Prelude.{◌≡◌, ◌≤◌, ◌<◌, ◌⊎◌, ℕ, ◌+◌, ◌==◌, nat_lt, ◌&&◌, ◌||◌, not, Bool, true, false, List, [], ◌∷◌, ◌++◌, Option, Some, None, if◌then◌else◌, slice_get, unwrap_or, option_map, codes, take}
+use Rattle.std.specs.Prelude.{◌≡◌, ◌≤◌, ◌<◌, ◌⊎◌, ℕ, ◌+◌, ◌==◌, nat_lt, ◌&&◌, ◌||◌, not, Bool, true, false, List, [], ◌∷◌, ◌++◌, Option, Some, None, if◌then◌else◌, slice_get, unwrap_or, option_map, codes, take, length}
 use Rattle.std.specs.List.{list_any}
 use Rattle.std.specs.Option.{option_or, option_to_list, ForSome}
 use Rattle.elf_model.specs.declared.objects.Section.{Section}
@@ -88,6 +88,10 @@ entry_list starts symbols k [] = []
 entry_list starts symbols k (s ∷ rest) =
     (if is_meant symbols k s then entry_at s (function_place starts s) else []) ++ entry_list starts symbols (k + 1) rest
 
+-- no name has two global definitions
+abbrev pub AreOnce : List Symbol → Type 0
+AreOnce symbols = (k : ℕ) (s : Symbol) → k < length symbols → slice_get symbols k ≡ Some s → is_second symbols k s ≡ false
+
 -- a symbol in code stands low enough
 abbrev pub IsLow : List (Option ℕ) → Symbol → Type 0
 IsLow starts s = ForSome (code_start starts s.home) (λ start. start + s.value ≤ 0x7FFFF001)
@@ -105,6 +109,7 @@ earlier (Some p) section k = if nat_lt section p.0 then (section, k) else p
 
 pub record IsLowest (symbols : List Symbol) (i section number : ℕ) : Type 0 where
   pub symbol : Symbol
+  pub below : number < i
   pub there : slice_get symbols number ≡ Some symbol
   pub second : is_second symbols number symbol ≡ true
   pub home : section ≡ home_section symbol.home

@@ -1,9 +1,9 @@
 //! The functions that can be called by name.
 
-ghost use Rattle.std.specs.Prelude.{◌≡◌, ◌||◌, ℕ, List, All, IfOk};
+ghost use Rattle.std.specs.Prelude.{◌≡◌, ◌++◌, ℕ, List, All, IfOk, OnOk};
 ghost use Rattle.std.specs.List.{list_any};
 ghost use Rattle.elf_model.specs.Fields.{same_name};
-ghost use Rattle.flat_link.specs.Symbols.{is_global, is_named, entry_list, IsLow};
+ghost use Rattle.flat_link.specs.Symbols.{is_global, is_named, function_place, entry_at, entry_list, IsLow};
 
 use crate::names::is_meant;
 use crate::stops::function_place;
@@ -21,6 +21,25 @@ fn entry(alloc: Global, name: &Name, address: u32) -> Result<NamedEntry, AllocEr
     })
 }
 
+/// Adds the entry of a symbol, if it is a function in code.
+fn push_function(
+    alloc: Global,
+    entries: &mut Vec<NamedEntry>,
+    starts: &[Option<u32>],
+    s: &Symbol,
+) -> Result<(), AllocError>
+    requires { IsLow starts.now s.now }
+    ensures { OnOk result (entries.new.items ≡ entries.old.items ++ entry_at s.now (function_place starts.now s.now)) }
+{
+    match function_place(starts, s) {
+        Some(address) => {
+            entries.push(entry(alloc, &s.name, address + 1)?)?;
+            Ok(())
+        }
+        None => Ok(()),
+    }
+}
+
 /// The entries of an object with these symbols, where `names` has the names of its global definitions.
 pub(crate) fn entries_of<'a>(
     alloc: Global,
@@ -35,9 +54,7 @@ pub(crate) fn entries_of<'a>(
     let mut entries = Vec::new(alloc);
     for s in symbols {
         if is_meant(names, s)? {
-            if let Some(address) = function_place(starts, s) {
-                entries.push(entry(alloc, &s.name, address + 1)?)?;
-            }
+            push_function(alloc, &mut entries, starts, s)?;
         }
     }
     Ok(entries)

@@ -2,7 +2,10 @@
 #![tactic(auto)]
 
 mod entries;
+mod linker;
 mod names;
 mod places;
 mod sections;
 mod stops;
+
+pub use linker::link;

@@ -5,7 +5,7 @@ ghost use Rattle.std.specs.List.{list_any};
 ghost use Rattle.elf_model.specs.Fields.{same_name};
 ghost use Rattle.thumb_table.specs.Images.{is_defined};
 ghost use Rattle.elf_model.specs.declared.objects.Symbol.{Symbol};
-ghost use Rattle.flat_link.specs.Symbols.{is_global, is_weak, is_named, is_second, home_section, earlier};
+ghost use Rattle.flat_link.specs.Symbols.{is_global, is_weak, is_named, home_section, earlier, AreOnce};
 ghost use Rattle.flat_link.specs.Refusals.{IsNameDenial};
 
 use elf_model::{Deny, Home, Refusal, Spot, Symbol};
@@ -96,7 +96,7 @@ pub(crate) fn global_names<'a>(
 ) -> Result<IndexSet<&'a [u8]>, Deny>
     requires few { length symbols.now ≤ 262144 }
     ensures known { IfOk result (λ names. (n : List ℕ) → list_any (λ k. same_name n k.now) names.keys ≡ is_named is_global n symbols.now) }
-    ensures once { OnOk result ((k : ℕ) (s : Symbol) → k < length symbols.now → slice_get symbols.now k ≡ Some s → is_second symbols.now k s ≡ false) }
+    ensures once { OnOk result (AreOnce symbols.now) }
     ensures twice { IfErr result (λ d. IsNameDenial symbols.now d) }
 {
     let mut names = IndexSet::new(alloc);

@@ -12,3 +12,13 @@ pub start_of-requires-clause-low : goal.start_of-requires-clause-low
 start_of-requires-clause-low c =
     let w = within Code c.loop-s.end c.args.sections.now c.loop-s.s-index c.s-item.result _ c.requires.sections (omega arith) c.s-item.is c.loop-s.invariant.left (sym c.is_code.ensures ∙ c.if-is_code.true) in
     omega (arith, w.0, c.requires.low)
+
+pub overflow_add-end : goal.overflow_add-end
+overflow_add-end c =
+    let w = within Code c.loop-s.end c.args.sections.now c.loop-s.s-index c.s-item.result _ c.requires.sections (omega arith) c.s-item.is c.loop-s.invariant.left (sym c.is_code.ensures ∙ c.if-is_code.true) in
+    omega (arith, w.1, c.requires.low, c.start_of.ensures.placed)
+
+pub overflow_cast-end-then-is_code : goal.overflow_cast-end-then-is_code
+overflow_cast-end-then-is_code c =
+    let w = within Code c.loop-s.end c.args.sections.now c.loop-s.s-index c.s-item.result _ c.requires.sections (omega arith) c.s-item.is c.loop-s.invariant.left (sym c.is_code.ensures ∙ c.if-is_code.true) in
+    omega (arith, w.1, c.requires.low, c.start_of.ensures.placed)
