@@ -1,0 +1,50 @@
+use Rattle.std.proofs.Common.{◌≡◌, ◌+◌, ◌++◌, ◌∷◌, [], drop, replicate, refl, sym, ◌∙◌, ap, arith}
+use Rattle.elf_model.specs.Objects.{is_section}
+use Rattle.elf_model.specs.Canonical.{round_up}
+use Rattle.thumb_table.specs.Images.{as_part, part_bytes}
+use Rattle.flat_link.specs.declared.places.Sort.TheVariants.{Code}
+use Rattle.flat_link.specs.Placing.{end_of, alignment_of}
+use Rattle.flat_link.proofs.SectionFacts.{each}
+use Rattle.flat_link.proofs.Walks.{within, end_grows, part_at, made_yes, made_no, bytes_yes, bytes_no, end_yes, end_no}
+use Rattle.flat_link.proofs.sections.push_parts.Goals as goal
+use Rattle.flat_link.proofs.sections.push_parts.Goals.{then-is_of+in_ok-push, else-is_of}
+
+pub start_of-start-requires-clause-section : goal.start_of-start-requires-clause-section
+start_of-start-requires-clause-section c = each is_section c.args.sections.now c.loop-s.s-index c.s-item.result c.requires.sections (omega arith) c.s-item.is
+
+pub start_of-start-requires-clause-low : goal.start_of-start-requires-clause-low
+start_of-start-requires-clause-low c =
+    let w = within c.args.sort c.loop-s.end c.args.sections.now c.loop-s.s-index c.s-item.result _ c.requires.sections (omega arith) c.s-item.is c.loop-s.invariant.left (sym c.is_of.ensures ∙ c.if-is_of.true) in
+    omega (arith, w.0, c.requires.low)
+
+pub overflow_add-end : goal.overflow_add-end
+overflow_add-end c =
+    let w = within c.args.sort c.loop-s.end c.args.sections.now c.loop-s.s-index c.s-item.result _ c.requires.sections (omega arith) c.s-item.is c.loop-s.invariant.left (sym c.is_of.ensures ∙ c.if-is_of.true) in
+    omega (arith, w.1, c.requires.low, c.start_of-start.ensures.placed)
+
+pub overflow_cast-start : goal.overflow_cast-start
+overflow_cast-start c =
+    let w = within c.args.sort c.loop-s.end c.args.sections.now c.loop-s.s-index c.s-item.result _ c.requires.sections (omega arith) c.s-item.is c.loop-s.invariant.left (sym c.is_of.ensures ∙ c.if-is_of.true) in
+    omega (arith, w.1, c.requires.low, c.start_of-start.ensures.placed)
+
+pub loop-s-preserved : goal.loop-s-preserved
+loop-s-preserved c =
+    elim c.if-is_of.branch [
+      | then-is_of+in_ok-push w ↦
+          let is_one = sym c.is_of.ensures ∙ w.if-is_of.true in
+          let start = w.start_of-start.ensures.placed in
+          record {
+            left = end_yes c.args.sort c.loop-s.end c.args.sections.now c.loop-s.s-index c.s-item.result _ _ (omega arith) c.s-item.is is_one (cc) c.loop-s.invariant.left;
+            made = made_yes c.loop-s.parts.items c.if-is_of.parts.items _ c.args.sort c.loop-s.end c.loop-s.s-index c.loop-s.ordinal c.args.sections.now c.s-item.result _ _ (omega arith) c.s-item.is is_one
+                (cc (w.in_ok-push.ensures.items)) (cc) (cc) c.loop-s.invariant.made;
+            few = omega arith;
+          }
+      | else-is_of w ↦
+          let is_none = sym c.is_of.ensures ∙ w.if-is_of.false in
+          record {
+            left = end_no c.args.sort c.loop-s.end c.args.sections.now c.loop-s.s-index c.s-item.result _ _ (omega arith) c.s-item.is is_none (cc) c.loop-s.invariant.left;
+            made = made_no c.loop-s.parts.items c.if-is_of.parts.items _ c.args.sort c.loop-s.end c.loop-s.s-index c.loop-s.ordinal c.args.sections.now c.s-item.result _ _ (omega arith) c.s-item.is is_none
+                (cc) (cc) (cc) c.loop-s.invariant.made;
+            few = omega arith;
+          }
+    ]

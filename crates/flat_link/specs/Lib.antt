@@ -1,0 +1,4 @@
+pub mod Made
+pub mod Placing
+pub mod Refusals
+pub mod Symbols
