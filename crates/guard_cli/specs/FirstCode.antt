@@ -56,11 +56,11 @@ abbrev pub are_symbols : ℕ → List Symbol → Bool
 are_symbols size (c ∷ f ∷ []) = is_code_symbol c && is_function_symbol size f
 are_symbols size _ = false
 
--- all but the sections, for code of this size
 abbrev pub is_empty : List Reloc → Bool
 is_empty [] = true
 is_empty (r ∷ relocs) = false
 
+-- all but the sections, for code of this size
 abbrev pub has_first_rest : ℕ → ObjectParts → Bool
 has_first_rest size o = are_symbols size o.symbols && is_empty o.relocs && (o.flags == 0x05000000)
 
