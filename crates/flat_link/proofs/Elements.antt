@@ -79,14 +79,14 @@ filter_contains p (x ∷ xs) y h t =
     elim (cases_Bool (p x)) [
       | inl a ↦
           subst (λ (l : List _). Contains l y) (sym (ap (λ (b : Bool). cond b (x ∷ filter p xs) (filter p xs)) a))
-              (elim (contains_cases x xs y h) [
-                | inl e ↦ subst (λ (z : _). Contains (z ∷ filter p xs) y) (sym e) (contains_here y (filter p xs))
-                | inr r ↦ contains_later x (filter p xs) y (filter_contains p xs y r t)
-              ])
+          (elim (contains_cases x xs y h) [
+            | inl e ↦ subst (λ (z : _). Contains (z ∷ filter p xs) y) (sym e) (contains_here y (filter p xs))
+            | inr r ↦ contains_later x (filter p xs) y (filter_contains p xs y r t)
+          ])
       | inr f ↦
           subst (λ (l : List _). Contains l y) (sym (ap (λ (b : Bool). cond b (x ∷ filter p xs) (filter p xs)) f))
-              (elim (contains_cases x xs y h) [
-                | inl e ↦ absurd (both_ways (p x) f (subst (λ (z : _). p z ≡ true) (sym e) t))
-                | inr r ↦ filter_contains p xs y r t
-              ])
+          (elim (contains_cases x xs y h) [
+            | inl e ↦ absurd (both_ways (p x) f (subst (λ (z : _). p z ≡ true) (sym e) t))
+            | inr r ↦ filter_contains p xs y r t
+          ])
     ]

@@ -67,50 +67,52 @@ entries_from starts symbols p f k [] h = refl
 entries_from starts symbols p f k (s ∷ rest) h =
     let z : k + 0 ≡ k = omega arith in
     let one : cond (is_meant symbols k s) (entry_at s (function_place starts s)) [] ≡ cond (p (defined_at 0 k s)) (f (defined_at 0 k s) ∷ []) [] =
-        subst (λ (n : ℕ). cond (is_meant symbols n s) (entry_at s (function_place starts s)) [] ≡ cond (p (defined_at 0 n s)) (f (defined_at 0 n s) ∷ []) []) z (h 0 s refl) in
+    subst (λ (n : ℕ). cond (is_meant symbols n s) (entry_at s (function_place starts s)) [] ≡ cond (p (defined_at 0 n s)) (f (defined_at 0 n s) ∷ []) []) z (h 0 s refl) in
     let more = entries_from starts symbols p f (k + 1) rest (λ i t e.
-        let y : k + suc i ≡ (k + 1) + i = omega arith in
-        subst (λ (n : ℕ). cond (is_meant symbols n t) (entry_at t (function_place starts t)) [] ≡ cond (p (defined_at 0 n t)) (f (defined_at 0 n t) ∷ []) []) y (h (suc i) t e)) in
+    let y : k + suc i ≡ (k + 1) + i = omega arith in
+    subst (λ (n : ℕ). cond (is_meant symbols n t) (entry_at t (function_place starts t)) [] ≡ cond (p (defined_at 0 n t)) (f (defined_at 0 n t) ∷ []) []) y (h (suc i) t e)) in
     ap (λ (l : List NamedEntry). l ++ entry_list starts symbols (k + 1) rest) one
     ∙ ap (λ (l : List NamedEntry). cond (p (defined_at 0 k s)) (f (defined_at 0 k s) ∷ []) [] ++ l) more
     ∙ sym (one_entry p f (defined_at 0 k s) (numbered 0 (k + 1) rest))
 
 entry_is : (base memory : ℕ) (o : ObjectParts) → list_all is_section o.sections ≡ true → AreOnce o.symbols → (k : ℕ) (s : Symbol) → slice_get o.symbols k ≡ Some s
     → cond (is_meant o.symbols k s) (entry_at s (function_place (code_starts base o.sections) s)) []
-      ≡ cond (is_entry o (both base memory o.sections) (defined_at 0 k s)) (made_of (both base memory o.sections) (defined_at 0 k s) ∷ []) []
+    ≡ cond (is_entry o (both base memory o.sections) (defined_at 0 k s)) (made_of (both base memory o.sections) (defined_at 0 k s) ∷ []) []
 unfolding is_entry made_of
 entry_is base memory o ok once k s at = go (function_place (code_starts base o.sections) s) refl
   where
     standing : is_standing (o ∷ []) (defined_at 0 k s) (resolved (o ∷ []) s.name) ≡ is_meant o.symbols k s
     standing = standing_is o k s at (once k s (slice_get_within o.symbols k s at) at)
+
     none : (b : Bool) → cond b (entry_at s None) [] ≡ []
     none true = refl
     none false = refl
+
     go : (p : Option ℕ) → function_place (code_starts base o.sections) s ≡ p
         → cond (is_meant o.symbols k s) (entry_at s (function_place (code_starts base o.sections) s)) []
-          ≡ cond (is_function (both base memory o.sections) (defined_at 0 k s) && is_standing (o ∷ []) (defined_at 0 k s) (resolved (o ∷ []) s.name))
-              (record { name = s.name; address = even (address_of (both base memory o.sections) (defined_at 0 k s)) + 1 } ∷ []) []
+        ≡ cond (is_function (both base memory o.sections) (defined_at 0 k s) && is_standing (o ∷ []) (defined_at 0 k s) (resolved (o ∷ []) s.name))
+        (record { name = s.name; address = even (address_of (both base memory o.sections) (defined_at 0 k s)) + 1 } ∷ []) []
     go None e =
         let f = no_function base memory o.sections ok s k e in
         ap (λ (t : Option ℕ). cond (is_meant o.symbols k s) (entry_at s t) []) e ∙ none (is_meant o.symbols k s)
         ∙ sym (ap (λ (b : Bool). cond b (record { name = s.name; address = even (address_of (both base memory o.sections) (defined_at 0 k s)) + 1 } ∷ []) [])
-            (and_left (is_function (both base memory o.sections) (defined_at 0 k s)) (is_standing (o ∷ []) (defined_at 0 k s) (resolved (o ∷ []) s.name)) f))
+        (and_left (is_function (both base memory o.sections) (defined_at 0 k s)) (is_standing (o ∷ []) (defined_at 0 k s) (resolved (o ∷ []) s.name)) f))
     go (Some a) e =
         let f = placed_function base memory o.sections ok s k a e in
         ap (λ (t : Option ℕ). cond (is_meant o.symbols k s) (entry_at s t) []) e
         ∙ sym (ap (λ (b : Bool). cond (b && is_standing (o ∷ []) (defined_at 0 k s) (resolved (o ∷ []) s.name)) (record { name = s.name; address = even (address_of (both base memory o.sections) (defined_at 0 k s)) + 1 } ∷ []) []) f.0
-            ∙ ap (λ (b : Bool). cond b (record { name = s.name; address = even (address_of (both base memory o.sections) (defined_at 0 k s)) + 1 } ∷ []) []) standing
-            ∙ ap (λ (n : ℕ). cond (is_meant o.symbols k s) (record { name = s.name; address = n + 1 } ∷ []) []) f.1)
+        ∙ ap (λ (b : Bool). cond b (record { name = s.name; address = even (address_of (both base memory o.sections) (defined_at 0 k s)) + 1 } ∷ []) []) standing
+        ∙ ap (λ (n : ℕ). cond (is_meant o.symbols k s) (record { name = s.name; address = n + 1 } ∷ []) []) f.1)
 
 pub entries_are : (base memory : ℕ) (o : ObjectParts) → list_all is_section o.sections ≡ true → AreOnce o.symbols
     → entry_list (code_starts base o.sections) o.symbols 0 o.symbols ≡ entries_of (o ∷ []) (both base memory o.sections)
 unfolding is_entry made_of
 entries_are base memory o ok once =
     entries_from (code_starts base o.sections) o.symbols (is_entry o (both base memory o.sections)) (made_of (both base memory o.sections)) 0 o.symbols
-        (λ i s at. let z : i ≡ 0 + i = omega arith in
-            subst (λ (n : ℕ). cond (is_meant o.symbols n s) (entry_at s (function_place (code_starts base o.sections) s)) []
-                ≡ cond (is_entry o (both base memory o.sections) (defined_at 0 n s)) (made_of (both base memory o.sections) (defined_at 0 n s) ∷ []) []) z
-                (entry_is base memory o ok once i s at))
+    (λ i s at. let z : i ≡ 0 + i = omega arith in
+    subst (λ (n : ℕ). cond (is_meant o.symbols n s) (entry_at s (function_place (code_starts base o.sections) s)) []
+    ≡ cond (is_entry o (both base memory o.sections) (defined_at 0 n s)) (made_of (both base memory o.sections) (defined_at 0 n s) ∷ []) []) z
+    (entry_is base memory o ok once i s at))
     ∙ ap (λ (l : List Defined). map (made_of (both base memory o.sections)) (filter (is_entry o (both base memory o.sections)) l)) (sym (append-nil (numbered 0 0 o.symbols)))
 
 -- a global definition, by its number
@@ -137,8 +139,8 @@ global_at o d h =
 pub later_second : (symbols : List Symbol) (d e : Defined) → IsGlobalAt symbols d → IsGlobalAt symbols e → d.symbol.name ≡ e.symbol.name → d.index < e.index → is_second symbols e.index e.symbol ≡ true
 later_second symbols d e x y same l =
     and_from (is_global e.symbol) (is_named is_global e.symbol.name (take e.index symbols)) y.sorted
-        (named_has is_global e.symbol.name (take e.index symbols) d.index d.symbol (take_get symbols e.index d.index d.symbol l x.there) x.sorted
-            (subst (λ (n : List ℕ). same_name e.symbol.name n ≡ true) (sym same) (same_name_self e.symbol.name)))
+    (named_has is_global e.symbol.name (take e.index symbols) d.index d.symbol (take_get symbols e.index d.index d.symbol l x.there) x.sorted
+    (subst (λ (n : List ℕ). same_name e.symbol.name n ≡ true) (sym same) (same_name_self e.symbol.name)))
 
 pub not_twice : (symbols : List Symbol) (d e : Defined) → AreOnce symbols → IsGlobalAt symbols d → IsGlobalAt symbols e → d.symbol.name ≡ e.symbol.name → d.index < e.index → ⊥
 not_twice symbols d e once x y same l =
@@ -154,12 +156,13 @@ can_link o at ok plain once f =
       no_relocations = All-cons (λ o. o.relocs ≡ []) o [] plain (All-nil (λ o. o.relocs ≡ []));
       once = λ d e x y same.
           let a = global_at o d x in
-          let b = global_at o e y in
-          (a.object ∙ sym b.object,
-           elim (cases_order d.index e.index) [
-             | inl is ↦ is
-             | inr r ↦ elim r [ inl l ↦ absurd (not_twice o.symbols d e once a b same l) | inr l ↦ absurd (not_twice o.symbols e d once b a (sym same) l) ]
-           ]);
+          let b = global_at o e y in (
+            a.object ∙ sym b.object,
+            elim (cases_order d.index e.index) [
+              | inl is ↦ is
+              | inr r ↦ elim r [ inl l ↦ absurd (not_twice o.symbols d e once a b same l) | inr l ↦ absurd (not_twice o.symbols e d once b a (sym same) l) ]
+            ],
+          );
       code_fits = omega (arith, fit.code);
       data_fits = subst (λ (n : ℕ). round_up n 8 + at.stack ≤ 16777216) (sym long) fit.memory;
       end_fits = omega (arith, fit.last);
@@ -180,9 +183,10 @@ image_is o at image ok plain place h =
       code_bytes = h.made.code.bytes ∙ ap (bytes_from at.base) (sym (code_is o at));
       marks = h.made.code.marks;
       stops = λ a.
-          let s = h.made.code.stops a in
-          (λ c. subst (λ (l : List Placed). IsStop (o ∷ []) l a) (sym (parts_are o at)) (to_stop at.base memory o ok a (s.0 c)),
-           λ t. s.1 (from_stop at.base memory o ok a (subst (λ (l : List Placed). IsStop (o ∷ []) l a) (parts_are o at) t)));
+          let s = h.made.code.stops a in (
+            λ c. subst (λ (l : List Placed). IsStop (o ∷ []) l a) (sym (parts_are o at)) (to_stop at.base memory o ok a (s.0 c)),
+            λ t. s.1 (from_stop at.base memory o ok a (subst (λ (l : List Placed). IsStop (o ∷ []) l a) (parts_are o at) t)),
+          );
       stops_rise = h.made.code.rise;
       memory = h.made.memory ∙ ap (λ (l : List Placed). memory_with memory (bytes_from memory l)) (sym (data_is o at));
       room = h.made.room;

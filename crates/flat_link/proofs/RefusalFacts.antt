@@ -31,8 +31,8 @@ use Rattle.flat_link.proofs.ImageFacts.{code_ends, data_ends, IsGlobalAt, global
 global_there : (o : ObjectParts) (k : ℕ) (s : Symbol) → slice_get o.symbols k ≡ Some s → is_global s ≡ true → Contains (globals (o ∷ [])) (defined_at 0 k s)
 global_there o k s e y =
     filter_contains (λ d. is_global d.symbol) (all_symbols 0 (o ∷ [])) (defined_at 0 k s)
-        (Contains-append_left (numbered 0 0 o.symbols) [] (defined_at 0 k s)
-            (let z : 0 + k ≡ k = omega arith in subst (λ (n : ℕ). Contains (numbered 0 0 o.symbols) (defined_at 0 n s)) z (numbered_has 0 0 o.symbols k s e))) y
+    (Contains-append_left (numbered 0 0 o.symbols) [] (defined_at 0 k s)
+    (let z : 0 + k ≡ k = omega arith in subst (λ (n : ℕ). Contains (numbered 0 0 o.symbols) (defined_at 0 n s)) z (numbered_has 0 0 o.symbols k s e))) y
 
 -- a second definition has a first one
 twice_fault : (o : ObjectParts) (at : Placement) (k : ℕ) (s : Symbol) → slice_get o.symbols k ≡ Some s → is_second o.symbols k s ≡ true → LinkFault (o ∷ []) at (Duplicate k) 0 (home_section s.home)
@@ -41,7 +41,7 @@ twice_fault o at k s e y =
     let q = named_there is_global s.name (take k o.symbols) p.1 in
     let t = get_take o.symbols k q.index q.symbol q.there in
     defined_twice (defined_at 0 q.index q.symbol) (defined_at 0 k s) (global_there o q.index q.symbol t.1 q.sorted) (global_there o k s e p.0)
-        (sym (same_name_is s.name q.symbol.name q.same)) (inr (refl, t.0))
+    (sym (same_name_is s.name q.symbol.name q.same)) (inr (refl, t.0))
 
 -- nothing comes before the lowest second definition
 not_before : (o : ObjectParts) (at : Placement) (section number : ℕ) (spot : Spot) → IsLowest o.symbols (length o.symbols) section number
@@ -57,6 +57,7 @@ not_before o at section number spot low n k f s r file sec (defined_twice d e x 
     lower : d.object ≡ 0 → e.object ≡ 0 → StandsBefore d e → d.index < e.index
     lower a c (inl l) = absurd (omega arith)
     lower a c (inr p) = p.1
+
     clash : (file sec i : ℕ) → file ≡ 0 → (section < sec) ⊎ ((section ≡ sec) × (number ≤ i))
         → (27 < number_of spot.refusal) ⊎ ((27 ≡ number_of spot.refusal) × ((file < spot.file) ⊎ ((file ≡ spot.file) × ((sec < spot.section) ⊎ ((sec ≡ spot.section) × (i < symbol_of spot.refusal)))))) → ⊥
     clash file sec i z low (inl a) = omega arith

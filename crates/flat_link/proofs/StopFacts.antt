@@ -32,6 +32,7 @@ module _ (base memory : ℕ) (sections : List Section) (ok : list_all is_section
       place y (Some b) e h =
           let c = in_code base memory sections s.home b ok e in
           (and_from (s.kind == func) (is_in_code (both base memory sections) 0 s.home) y c.0, ap (λ (n : ℕ). even (n + s.value)) c.1 ∙ same_Some _ _ h)
+
       go : (b : Bool) → (s.kind == func) ≡ b → cond b (option_map (λ start. even (start + s.value)) (code_start (code_starts base sections) s.home)) None ≡ Some a
           → (is_function (both base memory sections) (defined_at 0 k s) ≡ true) × (even (address_of (both base memory sections) (defined_at 0 k s)) ≡ a)
       go true y h = place y (code_start (code_starts base sections) s.home) refl h
@@ -44,6 +45,7 @@ module _ (base memory : ℕ) (sections : List Section) (ok : list_all is_section
           → is_function (both base memory sections) (defined_at 0 k s) ≡ false
       place None e h = and_right (s.kind == func) (is_in_code (both base memory sections) 0 s.home) (not_in_code base memory sections s.home e)
       place (Some b) e h = absurd (none-some (even (b + s.value)) (sym h))
+
       go : (b : Bool) → (s.kind == func) ≡ b → cond b (option_map (λ start. even (start + s.value)) (code_start (code_starts base sections) s.home)) None ≡ None
           → is_function (both base memory sections) (defined_at 0 k s) ≡ false
       go true y h = place (code_start (code_starts base sections) s.home) refl h
@@ -108,8 +110,8 @@ module _ (base memory : ℕ) (o : ObjectParts) (ok : list_all is_section o.secti
       let stands : stands_at j s.value s.home 0 s.value ≡ true = ap (λ (h : Home). stands_at j s.value h 0 s.value) at ∙ and_from (j == j) (s.value == s.value) (eq-eqb j j refl) (eq-eqb s.value s.value refl) in
       let start = data_start o k j s.value s e y stands (last_is o.symbols k j s.value l) in
       subst (λ (n : ℕ). IsStop (o ∷ []) (both base memory o.sections) (n + s.value)) r.at
-          (at_data r.part o s.value (Contains-append_left (parts_from Code base 0 0 o.sections) (parts_from Data memory 0 0 o.sections) r.part r.there) code
-              (ap (slice_get (o ∷ [])) r.object) (subst (λ (n : ℕ). IsDataStart o n s.value) number start))
+      (at_data r.part o s.value (Contains-append_left (parts_from Code base 0 0 o.sections) (parts_from Data memory 0 0 o.sections) r.part r.there) code
+      (ap (slice_get (o ∷ [])) r.object) (subst (λ (n : ℕ). IsDataStart o n s.value) number start))
 
   data_to : (k : ℕ) (s : Symbol) (a : ℕ) → slice_get o.symbols k ≡ Some s → data_place (code_starts base o.sections) o.symbols k s ≡ Some a → IsStop (o ∷ []) (both base memory o.sections) a
   data_to k s a e h = go (is_mapping_of (codes "$d") s && is_last o.symbols k s.home s.value) refl h
@@ -120,6 +122,7 @@ module _ (base memory : ℕ) (o : ObjectParts) (ok : list_all is_section o.secti
       place y (Some b) c h =
           let p = and_parts (is_mapping_of (codes "$d") s) (is_last o.symbols k s.home s.value) y in
           subst (λ (n : ℕ). IsStop (o ∷ []) (both base memory o.sections) n) (same_Some _ _ h) (data_stop k s b e p.0 s.home refl p.1 c)
+
       go : (b : Bool) → (is_mapping_of (codes "$d") s && is_last o.symbols k s.home s.value) ≡ b
           → cond b (option_map (λ start. start + s.value) (code_start (code_starts base o.sections) s.home)) None ≡ Some a → IsStop (o ∷ []) (both base memory o.sections) a
       go true y h = place y (code_start (code_starts base o.sections) s.home) refl h
@@ -129,7 +132,7 @@ module _ (base memory : ℕ) (o : ObjectParts) (ok : list_all is_section o.secti
   function_to k s a e h =
       let p = placed_function base memory o.sections ok s (0 + k) a h in
       subst (λ (n : ℕ). IsStop (o ∷ []) (both base memory o.sections) n) p.1
-          (at_function (defined_at 0 (0 + k) s) (Contains-append_left (numbered 0 0 o.symbols) [] (defined_at 0 (0 + k) s) (numbered_has 0 0 o.symbols k s e)) p.0)
+      (at_function (defined_at 0 (0 + k) s) (Contains-append_left (numbered 0 0 o.symbols) [] (defined_at 0 (0 + k) s) (numbered_has 0 0 o.symbols k s e)) p.0)
 
   pub to_stop : (a : ℕ) → Contains (all_stops o.sections o.symbols base) a → IsStop (o ∷ []) (both base memory o.sections) a
   to_stop a h =
@@ -148,7 +151,7 @@ module _ (base memory : ℕ) (o : ObjectParts) (ok : list_all is_section o.secti
         | inr e ↦
             let r = contains_map (λ p. p.start + p.section.size) (parts_from Code base 0 0 o.sections) a (subst (λ (l : List ℕ). Contains l a) (ends_are base 0 0 o.sections) e) in
             subst (λ (n : ℕ). IsStop (o ∷ []) (both base memory o.sections) n) r.2
-                (at_end r.0 (Contains-append_left (parts_from Code base 0 0 o.sections) (parts_from Data memory 0 0 o.sections) r.0 r.1) (part_is Code base 0 0 o.sections r.0 r.1).sorted)
+            (at_end r.0 (Contains-append_left (parts_from Code base 0 0 o.sections) (parts_from Data memory 0 0 o.sections) r.0 r.1) (part_is Code base 0 0 o.sections r.0 r.1).sorted)
       ]
 
   function_from : (d : Defined) → Contains (all_symbols 0 (o ∷ [])) d → is_function (both base memory o.sections) d ≡ true
@@ -165,17 +168,18 @@ module _ (base memory : ℕ) (o : ObjectParts) (ok : list_all is_section o.secti
             | inl a ↦ a
             | inr b ↦ absurd (contains_none d b)
           ]
+
       go : slice_get o.symbols (d.index - 0) ≡ Some d.symbol → d ≡ defined_at 0 d.index d.symbol → (p : Option ℕ) → function_place (code_starts base o.sections) d.symbol ≡ p
           → Contains (function_stops (code_starts base o.sections) o.symbols) (even (address_of (both base memory o.sections) d))
       go at same None e =
           absurd (both_ways (is_function (both base memory o.sections) d)
-              (ap (is_function (both base memory o.sections)) same ∙ no_function base memory o.sections ok d.symbol d.index e) y)
+          (ap (is_function (both base memory o.sections)) same ∙ no_function base memory o.sections ok d.symbol d.index e) y)
       go at same (Some b) e =
           let p = placed_function base memory o.sections ok d.symbol d.index b e in
           let i : d.index - 0 ≡ d.index = omega arith in
           let z : even (address_of (both base memory o.sections) d) ≡ b = ap (λ (q : Defined). even (address_of (both base memory o.sections) q)) same ∙ p.1 in
           subst (λ (l : List ℕ). Contains l (even (address_of (both base memory o.sections) d))) (sym (functions_are (code_starts base o.sections) 0 o.symbols))
-              (has_stop (λ k s. function_place (code_starts base o.sections) s) 0 o.symbols (d.index - 0) d.symbol (even (address_of (both base memory o.sections) d)) at (e ∙ ap (λ (n : ℕ). Some n) (sym z)))
+          (has_stop (λ k s. function_place (code_starts base o.sections) s) 0 o.symbols (d.index - 0) d.symbol (even (address_of (both base memory o.sections) d)) at (e ∙ ap (λ (n : ℕ). Some n) (sym z)))
 
   data_from : (p : Placed) (x : ℕ) → Contains (both base memory o.sections) p → is_code p.section ≡ true → IsDataStart o p.index x
       → Contains (data_stops (code_starts base o.sections) o.symbols 0 o.symbols) (p.start + x)
@@ -185,8 +189,8 @@ module _ (base memory : ℕ) (o : ObjectParts) (ok : list_all is_section o.secti
       let at : slice_get (code_starts base o.sections) p.index ≡ Some (Some p.start) = ap (slice_get (code_starts base o.sections)) (sym i) ∙ s.1 in
       let k : 0 + d.index ≡ d.index = omega arith in
       subst (λ (l : List ℕ). Contains l (p.start + x)) (sym (data_are (code_starts base o.sections) o.symbols 0 o.symbols))
-          (has_stop (data_place (code_starts base o.sections) o.symbols) 0 o.symbols d.index d.symbol (p.start + x) d.is_there
-              (ap (λ (n : ℕ). data_place (code_starts base o.sections) o.symbols n d.symbol) k ∙ place at d.symbol.home refl d.stands (data_last o p.index x d)))
+      (has_stop (data_place (code_starts base o.sections) o.symbols) 0 o.symbols d.index d.symbol (p.start + x) d.is_there
+      (ap (λ (n : ℕ). data_place (code_starts base o.sections) o.symbols n d.symbol) k ∙ place at d.symbol.home refl d.stands (data_last o p.index x d)))
     where
       place : slice_get (code_starts base o.sections) p.index ≡ Some (Some p.start) → (h : Home) → d.symbol.home ≡ h → stands_at p.index x h 0 d.symbol.value ≡ true
           → last_mapping 0 o.symbols p.index x ≡ Some d.index → data_place (code_starts base o.sections) o.symbols d.index d.symbol ≡ Some (p.start + x)
@@ -197,28 +201,28 @@ module _ (base memory : ℕ) (o : ObjectParts) (ok : list_all is_section o.secti
           let same_j : j ≡ p.index = eqb-true j p.index q.0 in
           let same_x : d.symbol.value ≡ x = eqb-true d.symbol.value x q.1 in
           let last : is_last o.symbols d.index d.symbol.home d.symbol.value ≡ true =
-              ap (λ (h : Home). is_last o.symbols d.index h d.symbol.value) e ∙ ap (λ (n : ℕ). is_number d.index (last_mapping 0 o.symbols n d.symbol.value)) same_j
-              ∙ ap (λ (n : ℕ). is_number d.index (last_mapping 0 o.symbols p.index n)) same_x ∙ ap (is_number d.index) l ∙ eq-eqb d.index d.index refl in
+          ap (λ (h : Home). is_last o.symbols d.index h d.symbol.value) e ∙ ap (λ (n : ℕ). is_number d.index (last_mapping 0 o.symbols n d.symbol.value)) same_j
+          ∙ ap (λ (n : ℕ). is_number d.index (last_mapping 0 o.symbols p.index n)) same_x ∙ ap (is_number d.index) l ∙ eq-eqb d.index d.index refl in
           let start : code_start (code_starts base o.sections) d.symbol.home ≡ Some p.start =
-              ap (code_start (code_starts base o.sections)) e ∙ ap (λ (n : ℕ). unwrap_or (slice_get (code_starts base o.sections) n) None) same_j ∙ ap (λ (t : Option (Option ℕ)). unwrap_or t None) at in
+          ap (code_start (code_starts base o.sections)) e ∙ ap (λ (n : ℕ). unwrap_or (slice_get (code_starts base o.sections) n) None) same_j ∙ ap (λ (t : Option (Option ℕ)). unwrap_or t None) at in
           ap (λ (b : Bool). cond b (option_map (λ start. start + d.symbol.value) (code_start (code_starts base o.sections) d.symbol.home)) None)
-              (and_from (is_mapping_of (codes "$d") d.symbol) (is_last o.symbols d.index d.symbol.home d.symbol.value) d.is_data last)
+          (and_from (is_mapping_of (codes "$d") d.symbol) (is_last o.symbols d.index d.symbol.home d.symbol.value) d.is_data last)
           ∙ ap (option_map (λ start. start + d.symbol.value)) start ∙ ap (λ (n : ℕ). Some (p.start + n)) same_x
 
   pub from_stop : (a : ℕ) → IsStop (o ∷ []) (both base memory o.sections) a → Contains (all_stops o.sections o.symbols base) a
   from_stop a (at_function d c y) =
       let starts = code_starts base o.sections in
       Contains-append_left (function_stops starts o.symbols ++ data_stops starts o.symbols 0 o.symbols) (end_stops base o.sections) (even (address_of (both base memory o.sections) d))
-          (Contains-append_left (function_stops starts o.symbols) (data_stops starts o.symbols 0 o.symbols) (even (address_of (both base memory o.sections) d)) (function_from d c y))
+      (Contains-append_left (function_stops starts o.symbols) (data_stops starts o.symbols 0 o.symbols) (even (address_of (both base memory o.sections) d)) (function_from d c y))
   from_stop a (at_data p q x c y e d) =
       let starts = code_starts base o.sections in
       let zero_is = (part_is Code base 0 0 o.sections p (code_part base memory o.sections p c y)).object in
       let same : q ≡ o = same_Some q o (sym e ∙ ap (slice_get (o ∷ [])) zero_is) in
       Contains-append_left (function_stops starts o.symbols ++ data_stops starts o.symbols 0 o.symbols) (end_stops base o.sections) (p.start + x)
-          (Contains-append_right (function_stops starts o.symbols) (data_stops starts o.symbols 0 o.symbols) (p.start + x)
-              (data_from p x c y (subst (λ (z : ObjectParts). IsDataStart z p.index x) same d)))
+      (Contains-append_right (function_stops starts o.symbols) (data_stops starts o.symbols 0 o.symbols) (p.start + x)
+      (data_from p x c y (subst (λ (z : ObjectParts). IsDataStart z p.index x) same d)))
   from_stop a (at_end p c y) =
       let starts = code_starts base o.sections in
       Contains-append_right (function_stops starts o.symbols ++ data_stops starts o.symbols 0 o.symbols) (end_stops base o.sections) (p.start + p.section.size)
-          (subst (λ (l : List ℕ). Contains l (p.start + p.section.size)) (sym (ends_are base 0 0 o.sections))
-              (map_contains (λ p. p.start + p.section.size) (parts_from Code base 0 0 o.sections) p (code_part base memory o.sections p c y)))
+      (subst (λ (l : List ℕ). Contains l (p.start + p.section.size)) (sym (ends_are base 0 0 o.sections))
+      (map_contains (λ p. p.start + p.section.size) (parts_from Code base 0 0 o.sections) p (code_part base memory o.sections p c y)))

@@ -15,7 +15,7 @@ stops_of-requires-clause-low c = low_code c.args.sections.now c.args.at.now c.re
 pub stops_of-requires-clause-near : goal.stops_of-requires-clause-near
 stops_of-requires-clause-near c =
     subst (λ (t : List (Option ℕ)). All (λ s. IsLow t s) c.args.symbols.now) (sym c.requires.starts)
-        (are_low c.args.at.now.base c.args.sections.now c.args.symbols.now c.requires.sections c.requires.symbols (low_code c.args.sections.now c.args.at.now c.requires.sections c.requires.fits))
+    (are_low c.args.at.now.base c.args.sections.now c.args.symbols.now c.requires.sections c.requires.symbols (low_code c.args.sections.now c.args.at.now c.requires.sections c.requires.fits))
 
 pub returns : goal.returns
 returns c =
@@ -25,6 +25,6 @@ returns c =
       marks = c.new.ensures.items;
       stops = λ a.
           subst (λ (t : List (Option ℕ)). Contains c.in_ok-stops.stops.items a ↔ Contains ((function_stops t c.args.symbols.now ++ data_stops t c.args.symbols.now 0 c.args.symbols.now) ++ end_stops c.args.at.now.base c.args.sections.now) a)
-              c.requires.starts (c.in_ok-stops.ensures.same a);
+          c.requires.starts (c.in_ok-stops.ensures.same a);
       rise = c.in_ok-stops.ensures.rise;
     })
