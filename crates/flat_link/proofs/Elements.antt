@@ -1,7 +1,7 @@
 -- Elements of lists by their numbers.
-use Rattle.std.proofs.Common.{◌≡◌, ◌≤◌, ◌<◌, ℕ, zero, suc, ◌+◌, ◌-◌, Bool, true, false, cond, List, [], ◌∷◌, ◌++◌, length, take, drop, get_or, refl, sym, ap, ◌∙◌, subst, inl, inr, ◌⊎◌, arith, filter, Option, Some, None}
+use Rattle.std.proofs.Common.{◌≡◌, ◌≤◌, ◌<◌, ℕ, zero, suc, ◌+◌, ◌-◌, Bool, true, false, cond, List, [], ◌∷◌, ◌++◌, length, take, drop, get_or, refl, sym, ap, ◌∙◌, subst, inl, inr, ◌⊎◌, arith, filter, map, Option, Some, None}
 use Rattle.std.specs.Prelude.{Contains, find, slice_get, slice_index_or}
-use Rattle.std.proofs.lemmas.Bool.{cases_Bool}
+use Rattle.std.proofs.lemmas.Bool.{cases_Bool, both_ways}
 use Rattle.std.proofs.lemmas.Option.{none-some, same_Some}
 
 pub contains_cases : {X : Type 0} (x : X) (xs : List X) (y : X) → Contains (x ∷ xs) y → (x ≡ y) ⊎ Contains xs y
@@ -55,4 +55,38 @@ finds p (x ∷ xs) y h t =
             | inl e ↦ (x, ap (λ (b : Bool). cond b (Some x) (find p xs)) (subst (λ (z : _). p z ≡ true) (sym e) t))
             | inr r ↦ let q = finds p xs y r t in (q.0, ap (λ (b : Bool). cond b (Some x) (find p xs)) f ∙ q.1)
           ]
+    ]
+
+pub contains_map : {X Y : Type 0} (f : X → Y) (xs : List X) (y : Y) → Contains (map f xs) y → (x : X) × Contains xs x × (f x ≡ y)
+contains_map f [] y h = absurd (contains_none y h)
+contains_map f (x ∷ xs) y h =
+    elim (contains_cases (f x) (map f xs) y h) [
+      | inl e ↦ (x, contains_here x xs, e)
+      | inr r ↦ let q = contains_map f xs y r in (q.0, contains_later x xs q.0 q.1, q.2)
+    ]
+
+pub map_contains : {X Y : Type 0} (f : X → Y) (xs : List X) (x : X) → Contains xs x → Contains (map f xs) (f x)
+map_contains f [] x h = absurd (contains_none x h)
+map_contains f (z ∷ xs) x h =
+    elim (contains_cases z xs x h) [
+      | inl e ↦ subst (λ (y : _). Contains (map f (z ∷ xs)) (f y)) e (contains_here (f z) (map f xs))
+      | inr r ↦ contains_later (f z) (map f xs) (f x) (map_contains f xs x r)
+    ]
+
+pub filter_contains : {X : Type 0} (p : X → Bool) (xs : List X) (y : X) → Contains xs y → p y ≡ true → Contains (filter p xs) y
+filter_contains p [] y h t = absurd (contains_none y h)
+filter_contains p (x ∷ xs) y h t =
+    elim (cases_Bool (p x)) [
+      | inl a ↦
+          subst (λ (l : List _). Contains l y) (sym (ap (λ (b : Bool). cond b (x ∷ filter p xs) (filter p xs)) a))
+          (elim (contains_cases x xs y h) [
+            | inl e ↦ subst (λ (z : _). Contains (z ∷ filter p xs) y) (sym e) (contains_here y (filter p xs))
+            | inr r ↦ contains_later x (filter p xs) y (filter_contains p xs y r t)
+          ])
+      | inr f ↦
+          subst (λ (l : List _). Contains l y) (sym (ap (λ (b : Bool). cond b (x ∷ filter p xs) (filter p xs)) f))
+          (elim (contains_cases x xs y h) [
+            | inl e ↦ absurd (both_ways (p x) f (subst (λ (z : _). p z ≡ true) (sym e) t))
+            | inr r ↦ filter_contains p xs y r t
+          ])
     ]

@@ -64,6 +64,7 @@ low_symbol base sections s ok low (home.Section j) at a e =
     there : (o : Option (Option ℕ)) → unwrap_or o None ≡ Some a → o ≡ Some (Some a)
     there None e = absurd (none-some a e)
     there (Some x) e = ap (λ (y : Option ℕ). Some y) e
+
     most : (b : Bool) {n : ℕ} → cond b (s.value - s.value % 2) s.value ≤ n → s.value ≤ n + 1
     most true h = omega arith
     most false h = omega arith

@@ -1,8 +1,11 @@
 pub mod Elements
 pub mod FitFacts
+pub mod ImageFacts
 pub mod MeantFacts
 pub mod NameFacts
 pub mod PartFacts
+pub mod RefusalFacts
 pub mod SectionFacts
+pub mod StopFacts
 pub mod SymbolFacts
 pub mod Walks

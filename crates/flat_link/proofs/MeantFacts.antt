@@ -153,35 +153,44 @@ standing_is o k s at once =
   where
     g : Bool
     g = is_global s
+
     w : Bool
     w = is_weak s
+
     t : Bool
     t = is_named is_weak s.name (take k o.symbols)
+
     q : Bool
     q = is_named is_global s.name o.symbols
+
     -- a definition before k, or at k, is in the symbols up to there
     above : (sort : Symbol → Bool) (e : Defined) → IsFirstNamed sort s.name 0 o.symbols e → sort s ≡ true → k < e.index → ⊥
     above sort e f y l =
         let i : e.index - 0 ≡ e.index = omega arith in
         both_ways (is_named sort s.name (take (e.index - 0) o.symbols)) f.none_before
-            (named_has sort s.name (take (e.index - 0) o.symbols) k s (take_get o.symbols (e.index - 0) k s (omega arith) at) y (same_name_self s.name))
+        (named_has sort s.name (take (e.index - 0) o.symbols) k s (take_get o.symbols (e.index - 0) k s (omega arith) at) y (same_name_self s.name))
+
     before : (sort : Symbol → Bool) (e : Defined) → IsFirstNamed sort s.name 0 o.symbols e → e.index < k → is_named sort s.name (take k o.symbols) ≡ true
     before sort e f l =
         let i : e.index - 0 ≡ e.index = omega arith in
         named_has sort s.name (take k o.symbols) e.index e.symbol (take_get o.symbols k e.index e.symbol l (ap (slice_get o.symbols) (sym i) ∙ f.there)) f.sorted f.same
+
     other : (sort : Symbol → Bool) (e : Defined) → IsFirstNamed sort s.name 0 o.symbols e → sort s ≡ false → k ≡ e.index → ⊥
     other sort e f n same =
         let i : k ≡ e.index - 0 = omega arith in
         let is : s ≡ e.symbol = same_Some s e.symbol (sym at ∙ ap (slice_get o.symbols) i ∙ f.there) in
         both_ways (sort e.symbol) (ap sort (sym is) ∙ n) f.sorted
+
     at_no : (e : Defined) → (k ≡ e.index → ⊥) → ((0 == e.object) && (k == e.index)) ≡ false
     at_no e d = ap (λ (b : Bool). (0 == e.object) && b) (ne_eqb k e.index d) ∙ and_right_no (0 == e.object)
       where
         and_right_no : (b : Bool) → (b && false) ≡ false
         and_right_no true = refl
         and_right_no false = refl
+
     at_yes : (sort : Symbol → Bool) (e : Defined) → IsFirstNamed sort s.name 0 o.symbols e → k ≡ e.index → ((0 == e.object) && (k == e.index)) ≡ true
     at_yes sort e f same = and_from (0 == e.object) (k == e.index) (eq-eqb 0 e.object (sym f.object)) (eq-eqb k e.index same)
+
     global_found : (e : Defined) → IsFirstNamed is_global s.name 0 o.symbols e → ((0 == e.object) && (k == e.index)) ≡ said g w t q
     global_found e f =
         elim (cases_Bool (is_global s)) [
@@ -199,12 +208,14 @@ standing_is o k s at once =
               let named : q ≡ true = named_has is_global s.name o.symbols e.index e.symbol (ap (slice_get o.symbols) (sym i) ∙ f.there) f.sorted f.same in
               at_no e (other is_global e f n) ∙ sym (ap (λ (b : Bool). said b w t q) n ∙ ap (λ (b : Bool). said false w t b) named ∙ said_no w t)
         ]
+
     not_global : q ≡ false → is_global s ≡ false
     not_global n =
         elim (cases_Bool (is_global s)) [
           | inl y ↦ absurd (both_ways q n (named_has is_global s.name o.symbols k s at y (same_name_self s.name)))
           | inr f ↦ f
         ]
+
     weak_found : (e : Defined) → q ≡ false → IsFirstNamed is_weak s.name 0 o.symbols e → ((0 == e.object) && (k == e.index)) ≡ said g w t q
     weak_found e n f =
         let is : said g w t q ≡ said false w t false = ap (λ (b : Bool). said b w t q) (not_global n) ∙ ap (λ (b : Bool). said false w t b) n in
@@ -223,6 +234,7 @@ standing_is o k s at once =
               ]
           | inr d ↦ at_no e (other is_weak e f d) ∙ sym (is ∙ ap (λ (b : Bool). said false b t false) d)
         ]
+
     not_weak : q ≡ false → is_named is_weak s.name o.symbols ≡ false → false ≡ said g w t q
     not_weak n m =
         let d : is_weak s ≡ false = elim (cases_Bool (is_weak s)) [
@@ -230,6 +242,7 @@ standing_is o k s at once =
           | inr f ↦ f
         ] in
         sym (ap (λ (b : Bool). said b w t q) (not_global n) ∙ ap (λ (b : Bool). said false b t q) d)
+
     go : (a b : Option Defined) → first_of is_global s.name 0 o.symbols ≡ a → first_of is_weak s.name 0 o.symbols ≡ b
         → is_standing (o ∷ []) (defined_at 0 k s) (option_or a b) ≡ said g w t q
     go (Some e) b x y = global_found e (some_named is_global s.name 0 o.symbols e x)

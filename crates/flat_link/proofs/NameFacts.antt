@@ -115,11 +115,11 @@ first_more symbols k s (Some p) l e y h =
     elim (cases_lt (home_section s.home) p.0) [
       | inl low ↦
           subst (λ (b : Bool). IsFirstSecond symbols (k + 1) (Some (cond b (home_section s.home, k) p))) (sym (lt-ltb (home_section s.home) p.0 low))
-              (now_first symbols k s l e y (λ i t b at two.
-                  elim (h.lowest i t b at two) [ inl a ↦ omega arith | inr c ↦ let d = c.0 in omega arith ]))
+          (now_first symbols k s l e y (λ i t b at two.
+          elim (h.lowest i t b at two) [ inl a ↦ omega arith | inr c ↦ let d = c.0 in omega arith ]))
       | inr high ↦
           subst (λ (b : Bool). IsFirstSecond symbols (k + 1) (Some (cond b (home_section s.home, k) p))) (sym (le-ltb (home_section s.home) p.0 high))
-              (kept l e high h)
+          (kept l e high h)
     ]
   where
     kept : k < length symbols → s ≡ get_or symbols k s → p.0 ≤ home_section s.home → IsLowest symbols k p.0 p.1 → IsLowest symbols (k + 1) p.0 p.1

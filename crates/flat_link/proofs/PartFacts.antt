@@ -71,7 +71,7 @@ start_is from j k (s ∷ rest) p h =
             | inl e ↦
                 let zero_at : j - j ≡ 0 = omega arith in
                 subst (λ (q : Placed). (j ≤ q.index) × (slice_get (code_starts from (s ∷ rest)) (q.index - j) ≡ Some (Some q.start))) e
-                    (omega arith, ap (slice_get (code_starts from (s ∷ rest))) zero_at ∙ ap (λ (l : List (Option ℕ)). slice_get l 0) (starts_yes from s rest y))
+                (omega arith, ap (slice_get (code_starts from (s ∷ rest))) zero_at ∙ ap (λ (l : List (Option ℕ)). slice_get l 0) (starts_yes from s rest y))
             | inr r ↦
                 let q = start_is (start + s.size) (j + 1) (k + 1) rest p r in
                 let a = q.0 in
@@ -152,7 +152,7 @@ starts_at from j k (s ∷ rest) (suc i) a h e =
     elim (cases_Bool (is_code s)) [
       | inl y ↦
           later_yes from j k s rest i a y (starts_at (round_up from (max 4 s.align) + s.size) (j + 1) (k + 1) rest i a ok
-              (sym (ap (λ (l : List (Option ℕ)). slice_get l (suc i)) (starts_yes from s rest y)) ∙ e))
+          (sym (ap (λ (l : List (Option ℕ)). slice_get l (suc i)) (starts_yes from s rest y)) ∙ e))
       | inr n ↦
           later_no from j k s rest i a n (starts_at from (j + 1) k rest i a ok (sym (ap (λ (l : List (Option ℕ)). slice_get l (suc i)) (starts_no from s rest n)) ∙ e))
     ]
@@ -185,9 +185,12 @@ found_part base memory sections j a h e =
     let i : f.0.index ≡ j = eqb-true f.0.index j (and_parts (f.0.object == 0) (f.0.index == j) q.1).1 in
     let s = start_is base 0 0 sections f.0 q.0 in
     let same : f.0.index - 0 ≡ j = omega arith in
-    let st : f.0.start ≡ a = same_Some _ _ (same_Some _ _ (sym s.1 ∙ ap (slice_get (code_starts base sections)) same ∙ e)) in
-    (f.0, find-append test (parts_from Code base 0 0 sections) (parts_from Data memory 0 0 sections) ∙ ap (λ (o : Option Placed). option_or o (find test (parts_from Data memory 0 0 sections))) f.1, st,
-     (part_is Code base 0 0 sections f.0 q.0).sorted)
+    let st : f.0.start ≡ a = same_Some _ _ (same_Some _ _ (sym s.1 ∙ ap (slice_get (code_starts base sections)) same ∙ e)) in (
+      f.0,
+      find-append test (parts_from Code base 0 0 sections) (parts_from Data memory 0 0 sections) ∙ ap (λ (o : Option Placed). option_or o (find test (parts_from Data memory 0 0 sections))) f.1,
+      st,
+      (part_is Code base 0 0 sections f.0 q.0).sorted,
+    )
 
 -- what the table says of a symbol's home is what the parts say
 pub in_code : (base memory : ℕ) (sections : List Section) (h : Home) (a : ℕ) → list_all is_section sections ≡ true → code_start (code_starts base sections) h ≡ Some a
@@ -202,6 +205,7 @@ in_code base memory sections (home.Section j) a ok e =
     there : (o : Option (Option ℕ)) → unwrap_or o None ≡ Some a → o ≡ Some (Some a)
     there None e = absurd (none-some a e)
     there (Some x) e = ap (λ (y : Option ℕ). Some y) e
+
     code_of : Option Placed → Bool
     code_of None = false
     code_of (Some p) = is_code p.section
@@ -214,6 +218,7 @@ not_in_code base memory sections (home.Section j) e = go (part_of (both base mem
     code_of : Option Placed → Bool
     code_of None = false
     code_of (Some p) = is_code p.section
+
     go : (o : Option Placed) → part_of (both base memory sections) 0 j ≡ o → code_of (part_of (both base memory sections) 0 j) ≡ false
     go None f = ap (λ (o : Option Placed). code_of o) f
     go (Some p) f =

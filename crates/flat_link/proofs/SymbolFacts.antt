@@ -43,7 +43,7 @@ numbered_has i k (t ∷ rest) zero s e =
 numbered_has i k (t ∷ rest) (suc j) s e =
     let a : (k + 1) + j ≡ k + suc j = omega arith in
     subst (λ (n : ℕ). Contains (numbered i k (t ∷ rest)) (defined_at i n s)) a
-        (contains_later (defined_at i k t) (numbered i (k + 1) rest) (defined_at i ((k + 1) + j) s) (numbered_has i (k + 1) rest j s e))
+    (contains_later (defined_at i k t) (numbered i (k + 1) rest) (defined_at i ((k + 1) + j) s) (numbered_has i (k + 1) rest j s e))
 
 -- stops that each symbol may give
 abbrev pub stops_by : (ℕ → Symbol → Option ℕ) → ℕ → List Symbol → List ℕ
@@ -117,6 +117,7 @@ sound k (s ∷ rest) j x m h = go (last_mapping (k + 1) rest j x) refl h (sound 
         let z : m - k ≡ 0 = omega arith in
         record { symbol = s; above = omega arith; there = ap (slice_get (s ∷ rest)) z; maps = e }
     here false e h = absurd (none-some m h)
+
     go : (o : Option ℕ) → last_mapping (k + 1) rest j x ≡ o → option_or o (cond (maps_at j x s) (Some k) None) ≡ Some m
         → (last_mapping (k + 1) rest j x ≡ Some m → IsMappingAt (k + 1) rest j x m) → IsMappingAt k (s ∷ rest) j x m
     go None e h more = here (maps_at j x s) refl h

@@ -118,7 +118,7 @@ bytes_yes done new z sort e j sections s e2 l is y a b m =
     let gap : List ℕ = replicate (start - e) 0 in
     let tail : List ℕ = bytes_from (start + s.size) (parts_from sort (start + s.size) 0 0 rest) in
     let p = ap (λ (t : List Section). bytes_from e (parts_from sort e 0 0 t)) (next sections j s l is) ∙ ap (bytes_from e) (parts_yes sort e 0 0 s rest y)
-        ∙ ap (λ (t : List ℕ). (gap ++ part_bytes s) ++ t) (same_bytes sort (start + s.size) (0 + 1) (0 + 1) 0 0 rest) in
+    ∙ ap (λ (t : List ℕ). (gap ++ part_bytes s) ++ t) (same_bytes sort (start + s.size) (0 + 1) (0 + 1) 0 0 rest) in
     ap (λ (t : List ℕ). t ++ bytes_from e2 (parts_from sort e2 0 0 rest)) a
     ∙ ap (λ (t : ℕ). ((done ++ gap) ++ part_bytes s) ++ bytes_from t (parts_from sort t 0 0 rest)) b
     ∙ ap (λ (t : List ℕ). t ++ tail) (append_assoc done gap (part_bytes s))
@@ -131,7 +131,7 @@ pub bytes_no : (done new : List ℕ) (z : List ℕ) (sort : Sort) (e j : ℕ) (s
 bytes_no done new z sort e j sections s e2 l is n a b m =
     let rest = drop (j + 1) sections in
     let p = ap (λ (t : List Section). bytes_from e (parts_from sort e 0 0 t)) (next sections j s l is) ∙ ap (bytes_from e) (parts_no sort e 0 0 s rest n)
-        ∙ same_bytes sort e (0 + 1) 0 0 0 rest in
+    ∙ same_bytes sort e (0 + 1) 0 0 0 rest in
     ap (λ (t : List ℕ). t ++ bytes_from e2 (parts_from sort e2 0 0 rest)) a
     ∙ ap (λ (t : ℕ). done ++ bytes_from t (parts_from sort t 0 0 rest)) b
     ∙ ap (λ (t : List ℕ). done ++ t) (sym p) ∙ m
@@ -150,7 +150,7 @@ bytes_end sort e j k (s ∷ rest) h =
           let more = bytes_end sort (start + s.size) (j + 1) (k + 1) rest p.1 in
           let ends = ap (λ (t : ℕ). end_of sort t rest) (after_yes sort e s y) in
           let long = ap (λ (t : List Placed). length (bytes_from e t)) (parts_yes sort e j k s rest y)
-              ∙ length-append (replicate (start - e) 0 ++ part_bytes s) (bytes_from (start + s.size) tail) in
+          ∙ length-append (replicate (start - e) 0 ++ part_bytes s) (bytes_from (start + s.size) tail) in
           omega (arith, more, ends, long, length-append (replicate (start - e) 0) (part_bytes s), length-replicate {A = ℕ} (start - e) 0, sized s p.0, r.0)
       | inr n ↦
           let more = bytes_end sort e (j + 1) k rest p.1 in

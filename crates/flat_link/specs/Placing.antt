@@ -43,8 +43,3 @@ abbrev pub code_starts : ℕ → List Section → List (Option ℕ)
 code_starts from [] = []
 code_starts from (s ∷ rest) =
     (if is_code s then Some (round_up from (max 4 s.align)) else None) ∷ code_starts (end_after Code from s) rest
-
--- what the linker knows once an object fits: where each code section starts
-pub record IsLaidOut (o : ObjectParts) (base : ℕ) (starts : List (Option ℕ)) : Type 0 where
-  pub here : starts ≡ code_starts base o.sections
-  pub low : end_of Code base o.sections ≤ 0x7FFFF000

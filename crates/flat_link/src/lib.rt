@@ -9,3 +9,6 @@ mod sections;
 mod stops;
 
 pub use linker::link;
+
+#[cfg(test)]
+mod tests;

@@ -13,6 +13,7 @@ use indexmap::IndexSet;
 use std::alloc::{AllocError, Global};
 
 const GLOBAL: u8 = 1;
+
 const WEAK: u8 = 2;
 
 fn is_defined(home: Home) -> bool
@@ -113,7 +114,10 @@ pub(crate) fn global_names<'a>(
 }
 
 /// Whether a symbol is what its name stands for. The name of a weak definition is then taken.
-pub(crate) fn is_meant<'a>(names: &mut IndexSet<&'a [u8]>, s: &'a Symbol) -> Result<bool, AllocError>
+pub(crate) fn is_meant<'a>(
+    names: &mut IndexSet<&'a [u8]>,
+    s: &'a Symbol,
+) -> Result<bool, AllocError>
     ensures meant { IfOk result (λ meant. meant ≡ (is_global s.now || (is_weak s.now && not (list_any (λ k. same_name s.now.name k.now) names.old.keys)))) }
     ensures known { OnOk result ((n : List ℕ) → list_any (λ k. same_name n k.now) names.new.keys ≡ ((is_weak s.now && same_name n s.now.name) || list_any (λ k. same_name n k.now) names.old.keys)) }
 {

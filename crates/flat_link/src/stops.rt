@@ -15,7 +15,9 @@ use indexmap::IndexMap;
 use std::alloc::{AllocError, Global};
 
 const LOCAL: u8 = 0;
+
 const NOTYPE: u8 = 0;
+
 const FUNC: u8 = 2;
 
 fn code_start(starts: &[Option<u32>], home: Home) -> Option<u32>
@@ -112,10 +114,7 @@ fn note_symbol(
 }
 
 /// The last mapping symbol at each place, by its number.
-fn last_mappings(
-    alloc: Global,
-    symbols: &[Symbol],
-) -> Result<IndexMap<(u32, u32), u32>, AllocError>
+fn last_mappings(alloc: Global, symbols: &[Symbol]) -> Result<IndexMap<(u32, u32), u32>, AllocError>
     requires few { length symbols.now ≤ 262144 }
     ensures { IfOk result (λ last. (j x : ℕ) → get_by (λ q. (j == q.0) && (x == q.1)) last ≡ last_mapping 0 symbols.now j x) }
 {

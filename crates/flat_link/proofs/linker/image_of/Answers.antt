@@ -12,4 +12,4 @@ pub entries_of-requires-clause-low : goal.entries_of-requires-clause-low
 entries_of-requires-clause-low c =
     let e : c.deref-2.result.now ≡ code_starts c.args.at.now.base c.args.sections.now = c.deref-2.ensures.value ∙ c.in_ok-starts.ensures in
     subst (λ (t : List (Option ℕ)). All (λ s. IsLow t s) c.args.symbols.now) (sym e)
-        (are_low c.args.at.now.base c.args.sections.now c.args.symbols.now c.requires.sections c.requires.symbols (low_code c.args.sections.now c.args.at.now c.requires.sections c.requires.fits))
+    (are_low c.args.at.now.base c.args.sections.now c.args.symbols.now c.requires.sections c.requires.symbols (low_code c.args.sections.now c.args.at.now c.requires.sections c.requires.fits))

@@ -10,7 +10,7 @@ pub loop-k-preserved : goal.loop-k-preserved
 loop-k-preserved c =
     let s = c.index-symbols-k.result in
     let second : is_second c.args.symbols.now c.loop-k.k s ≡ c.in_ok-is_repeated.field-0 =
-        ap (λ (b : Bool). is_global s && b) (sym (c.loop-k.invariant.known s.name)) ∙ sym c.in_ok-is_repeated.ensures.repeated in
+    ap (λ (b : Bool). is_global s && b) (sym (c.loop-k.invariant.known s.name)) ∙ sym c.in_ok-is_repeated.ensures.repeated in
     record {
       known = λ n. c.in_ok-is_repeated.ensures.known n ∙ ap (λ (b : Bool). (is_global s && same_name n s.name) || b) (c.loop-k.invariant.known n)
           ∙ named_more is_global n c.args.symbols.now c.loop-k.k s (omega arith) c.index-symbols-k.is;
@@ -18,9 +18,9 @@ loop-k-preserved c =
         | then-branch w ↦
             let is : Some (earlier c.loop-k.first (home_section s.home) c.loop-k.k) ≡ c.if-branch.first = cc in
             subst (λ (o : Option (ℕ × ℕ)). IsFirstSecond c.args.symbols.now (c.loop-k.k + 1) o) is
-                (first_more c.args.symbols.now c.loop-k.k s c.loop-k.first (omega arith) c.index-symbols-k.is (second ∙ w.if-branch.true) c.loop-k.invariant.first)
+            (first_more c.args.symbols.now c.loop-k.k s c.loop-k.first (omega arith) c.index-symbols-k.is (second ∙ w.if-branch.true) c.loop-k.invariant.first)
         | else-branch w ↦
             subst (λ (o : Option (ℕ × ℕ)). IsFirstSecond c.args.symbols.now (c.loop-k.k + 1) o) (sym w.first-is)
-                (first_same c.args.symbols.now c.loop-k.k s c.loop-k.first (omega arith) c.index-symbols-k.is (second ∙ w.if-branch.false) c.loop-k.invariant.first)
+            (first_same c.args.symbols.now c.loop-k.k s c.loop-k.first (omega arith) c.index-symbols-k.is (second ∙ w.if-branch.false) c.loop-k.invariant.first)
       ];
     }

@@ -15,7 +15,8 @@ returns-clause-rise c =
 pub returns-clause-same : goal.returns-clause-same
 returns-clause-same c = λ a.
     let xs : List ℕ = c.sort_unstable.new.self.items in
-    let e = dedup_is nat_eq xs c.dedup.new.self.items c.dedup.ensures.filtered in
-    (λ h. Contains-permutation xs c.args.stops.items a (IsPermutation-sym c.args.stops.items xs c.sort_unstable.ensures.permutation)
+    let e = dedup_is nat_eq xs c.dedup.new.self.items c.dedup.ensures.filtered in (
+      λ h. Contains-permutation xs c.args.stops.items a (IsPermutation-sym c.args.stops.items xs c.sort_unstable.ensures.permutation)
           (Contains-from_dedup nat_eq xs a (subst (λ (t : List ℕ). Contains t a) e h)),
-     λ h. subst (λ (t : List ℕ). Contains t a) (sym e) (Contains-dedup_nat xs a (Contains-permutation c.args.stops.items xs a c.sort_unstable.ensures.permutation h)))
+      λ h. subst (λ (t : List ℕ). Contains t a) (sym e) (Contains-dedup_nat xs a (Contains-permutation c.args.stops.items xs a c.sort_unstable.ensures.permutation h)),
+    )
