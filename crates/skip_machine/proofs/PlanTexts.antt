@@ -1,13 +1,15 @@
 -- Plans as texts and as lists of numbers.
-use Rattle.std.proofs.Common.{◌≡◌, ◌≢◌, ℕ, ◌+◌, ◌<◌, ◌^◌, ◌%◌, ◌==◌, Bool, true, false, List, [], ◌∷◌, ◌++◌, length, get_or, map, arith, refl, sym, ap, ◌∙◌, ne_eqb, None, append_assoc, append-nil}
+use Rattle.std.proofs.Common.{◌≡◌, ◌≢◌, ℕ, zero, suc, ◌+◌, ◌<◌, ◌^◌, ◌%◌, ◌==◌, Bool, true, false, List, [], ◌∷◌, ◌++◌, length, get_or, map, arith, refl, sym, ap, ◌∙◌, ne_eqb, None, append_assoc, append-nil}
 use Rattle.std.specs.Prelude.{All}
 use Rattle.std.specs.Fmt.{decimal}
 use Rattle.std.specs.List.{join_with_byte, slice_split}
+use Rattle.std.proofs.lemmas.Bool.{false≢true}
 use Rattle.std.proofs.lemmas.List.{map-append}
 use Rattle.std.proofs.lemmas.List.Elements.{All-nil, All-cons, All-push, All-head, All-tail, All-from_get_or}
 use Rattle.std.proofs.lemmas.List.Splits.{slice_split_none, slice_split_at, join_with_byte-slice_split}
-use Rattle.std.proofs.lemmas.Fmt.{decimal_by_steps, decimal_nonempty}
-use Rattle.skip_machine.specs.Plans.{parts_of, IsNumber, AreNumbers}
+use Rattle.std.proofs.lemmas.Fmt.{decimal_by_steps, decimal_is_IsNumeral}
+use Rattle.std.specs.Str.Parse.{digits_value}
+use Rattle.skip_machine.specs.Plans.{IsPlanText, parts_of, IsNumber, AreNumbers}
 
 abbrev pub NoComma : List ℕ → Type 0
 NoComma bs = All (λ b. (b == 44) ≡ false) bs
@@ -68,3 +70,31 @@ finished text read p n e is small smalls = record {
   parts = pushed text read p n [] e is ∙ append-nil (map decimal (read ++ n ∷ []));
   small = All-push (λ n. n < 2 ^ 63) read n smalls small;
 }
+
+-- A plan's text that isn't empty is its numbers.
+pub plan_is_numbers : (copies : ℕ) (text s : List ℕ) → 0 < length text → IsPlanText copies text s → AreNumbers text s
+plan_is_numbers copies text [] some plan = absurd (omega (arith, ap length plan.reads))
+plan_is_numbers copies text (n ∷ s) some plan = record { parts = ap parts_of plan.reads ∙ parts_of_joined n s plan.small; small = plan.small }
+
+-- a number from its decimal
+value_of : (n : ℕ) → n < 2 ^ 63 → digits_value 10 (decimal n) ≡ n
+value_of n lt = (decimal_is_IsNumeral n (omega arith)).1
+
+same_numbers : (s t : List ℕ) → All (λ n. n < 2 ^ 63) s → All (λ n. n < 2 ^ 63) t → map decimal s ≡ map decimal t → s ≡ t
+same_numbers [] [] hs ht e = refl
+same_numbers [] (n ∷ t) hs ht e = absurd (cc)
+same_numbers (m ∷ s) [] hs ht e = absurd (cc)
+same_numbers (m ∷ s) (n ∷ t) hs ht e =
+    let heads : decimal m ≡ decimal n = cc in
+    let tails : map decimal s ≡ map decimal t = cc in
+    let first : m ≡ n = sym (value_of m (All-head (λ n. n < 2 ^ 63) m s hs)) ∙ ap (λ (ds : List ℕ). digits_value 10 ds) heads ∙ value_of n (All-head (λ n. n < 2 ^ 63) n t ht) in
+    let rest : s ≡ t = same_numbers s t (All-tail (λ n. n < 2 ^ 63) m s hs) (All-tail (λ n. n < 2 ^ 63) n t ht) tails in
+    cc (first, rest)
+
+-- A text has the same numbers always.
+pub only_numbers : (text s t : List ℕ) → AreNumbers text s → AreNumbers text t → s ≡ t
+only_numbers text s t hs ht = same_numbers s t hs.small ht.small (sym hs.parts ∙ ht.parts)
+
+pub some_there : (n : ℕ) → (n == 0) ≡ false → 0 < n
+some_there zero e = absurd (false≢true (sym e))
+some_there (suc n) e = omega arith
