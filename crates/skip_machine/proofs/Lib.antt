@@ -3,3 +3,5 @@ pub mod Arguments
 pub mod Sizes
 pub mod Walks
 pub mod Further
+pub mod Schedules
+pub mod PlanTexts

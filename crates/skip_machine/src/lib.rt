@@ -3,9 +3,11 @@
 
 mod decodes;
 mod fetches;
+mod legal;
 mod machines;
 mod moves;
 mod plans;
+mod texts;
 
 pub use machines::{Machine, Moved, Outcome};
-pub use plans::Plan;
+pub use plans::{Plan, PlanErr};

@@ -1,9 +1,23 @@
 //! Plans: which steps are skipped.
 
-ghost use Rattle.std.specs.Prelude.{◌≡◌};
+ghost use Rattle.std.specs.Prelude.{◌≡◌, ◌≤◌, ℕ, List, IfOk};
 ghost use Rattle.thumb_table.specs.Schedules.{is_in};
+ghost use Rattle.skip_machine.specs.Plans.{IsPlanText};
 
+use crate::legal::is_legal;
+use crate::texts::numbers;
+use std::alloc::Global;
 use std::marker::Model;
+use thiserror::Error;
+
+/// Why a text is no plan.
+#[derive(Clone, Copy, Debug, PartialEq, Eq, Error)]
+pub enum PlanErr {
+    #[error("no memory")]
+    NoMemory,
+    #[error("not a plan")]
+    Bad,
+}
 
 /// The numbers of the steps that are skipped, seen as their list.
 #[derive(Debug, Drop)]
@@ -23,6 +37,31 @@ impl Model for Plan {
 }
 
 impl Plan {
+    /// The plan that a text is: numbers with a comma between, of which no `copies` are consecutive.
+    pub fn read(alloc: Global, text: &str, copies: u8) -> Result<Plan, PlanErr>
+        requires low { 2 ≤ copies }
+        requires high { copies ≤ 4 }
+        ensures plan { IfOk result (IsPlanText copies text.now) }
+        ensures bad { result ≡ Err PlanErr.Bad → (s : List ℕ) → IsPlanText copies text.now s → ⊥ }
+    {
+        if text.is_empty() {
+            return Ok(Plan {
+                numbers: Vec::new(alloc),
+            });
+        }
+        match numbers(alloc, text) {
+            Err(_) => Err(PlanErr::NoMemory),
+            Ok(None) => Err(PlanErr::Bad),
+            Ok(Some(numbers)) => {
+                if is_legal(&numbers, copies) {
+                    Ok(Plan { numbers })
+                } else {
+                    Err(PlanErr::Bad)
+                }
+            }
+        }
+    }
+
     /// Whether a step is skipped.
     pub fn holds(&self, step: u64) -> bool
         ensures { result ≡ is_in self.now step }
