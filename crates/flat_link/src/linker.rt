@@ -134,6 +134,6 @@ pub fn link(alloc: Global, objects: &[Object], at: &Placement) -> Result<Image, 
     ensures refused { IfErr result (λ why. IsLinkDenial objects.now at.now why) }
 {
     let o = &objects[0];
-    o.valid();
+    o.sound();
     link_one(alloc, o.sections(), o.symbols(), at)
 }

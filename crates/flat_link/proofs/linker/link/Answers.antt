@@ -33,7 +33,7 @@ returns-clause-image c =
     let plain = subst (λ (x : ObjectParts). x.relocs ≡ []) (sym c.index-objects-0.is) (c.requires.plain 0 o (omega arith)) in
     subst (λ (l : List ObjectParts). IfOk c.link_one.result (λ image. IsImage l c.args.at.now image)) whole
     (IfOk-weaker c.link_one.result _ _
-    (λ image h. image_is o c.args.at.now image (good o c.valid.ensures) plain c.requires.placement
+    (λ image h. image_is o c.args.at.now image (good o c.sound.ensures) plain c.requires.placement
     (subst (λ (l : List Section). IsLinked l o.symbols c.args.at.now image) c.sections.ensures
     (subst (λ (l : List Symbol). IsLinked c.sections.result.now l c.args.at.now image) c.symbols.ensures h)))
     c.link_one.ensures.image)
@@ -44,7 +44,7 @@ returns-clause-refused c =
     let whole = single c.args.objects.now o c.requires.one c.index-objects-0.is in
     subst (λ (l : List ObjectParts). IfErr c.link_one.result (λ why. IsLinkDenial l c.args.at.now why)) whole
     (IfErr-weaker c.link_one.result _ _
-    (λ why h. denial_is o c.args.at.now why (good o c.valid.ensures)
+    (λ why h. denial_is o c.args.at.now why (good o c.sound.ensures)
     (subst (λ (l : List Section). IsOneDenial l o.symbols c.args.at.now why) c.sections.ensures
     (subst (λ (l : List Symbol). IsOneDenial c.sections.result.now l c.args.at.now why) c.symbols.ensures h)))
     c.link_one.ensures.refused)
