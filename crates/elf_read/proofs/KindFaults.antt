@@ -7,7 +7,7 @@ use Rattle.elf_model.specs.Fields.{same_name}
 use Rattle.elf_model.specs.Files.{header, header_count, header_place, section_name, is_table, is_dropped}
 use Rattle.elf_model.specs.Maps.{map_name}
 use Rattle.elf_read.specs.declared.places.Place.{Place}
-use Rattle.elf_read.specs.Faults.{Fault, IsHeader, is_input_limit}
+use Rattle.elf_read.specs.Faults.{Fault, IsHeader, is_input_limit, is_map}
 use Rattle.elf_read.specs.Faults.Fault.{refused_kind, memory_kind, writable_code, empty_code, own_map}
 use Rattle.elf_read.specs.Keeping.{kind_tests}
 use Rattle.elf_read.specs.Places.{IsLowest, first_of}
@@ -39,7 +39,7 @@ FaultAt b l h d = Fault b l SectionKind h (header_place b h + d)
 
 there : (b : List ℕ) (l : Limit) (h d : ℕ) → IsHeader b h → HoldsIn (kind_tests b (is_input_limit l) h) d → Fault b l SectionKind h (header_place b h + d)
 there b l h d i (inl t) =
-    let parts : (is_input_limit l ≡ true) × (same_name (section_name b h) map_name ≡ true) = and_parts _ _ t.1 in
+    let parts : (is_input_limit l ≡ true) × (is_map b h ≡ true) = and_parts _ _ t.1 in
     let same : header_place b h ≡ header_place b h + d = omega (arith, t.0) in
     subst (λ (o : ℕ). Fault b l SectionKind h o) same (own_map h i parts.0 parts.1)
 there b l h d i (inr (inl t)) = subst (λ (e : ℕ). Fault b l SectionKind h (header_place b h + e)) (sym t.0) (elim (or_cases _ _ t.1) [

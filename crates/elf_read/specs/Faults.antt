@@ -72,6 +72,10 @@ code_up_to b h = sum_by (λ k. (header b k).size) (filter (is_code_header b) (fr
 abbrev pub is_memory_kind : ℕ → Bool
 is_memory_kind kind = list_any (λ k. kind == k) (progbits ∷ nobits ∷ init_array ∷ fini_array ∷ [])
 
+-- a section of an address map; the names of relocation sections are not looked at
+abbrev pub is_map : List ℕ → ℕ → Bool
+is_map b h = not ((header b h).kind == rel) && same_name (section_name b h) map_name
+
 -- A fault of a file under a limit: the refusal, the section header and the offset.
 pub data Fault (b : List ℕ) (l : Limit) : Refusal → ℕ → ℕ → Type 0 where
   -- fewer bytes than a file header has, or another format
@@ -123,7 +127,7 @@ pub data Fault (b : List ℕ) (l : Limit) : Refusal → ℕ → ℕ → Type 0 w
   memory_kind : (h : ℕ) → IsHeader b h → is_alloc (header b h).flags ≡ true → is_memory_kind (header b h).kind ≡ false → ((is_table (header b h).kind ≡ true) ⊎ (is_dropped b h ≡ false)) → Fault b l SectionKind h (header_place b h + 4)
   writable_code : (h : ℕ) → IsHeader b h → is_exec (header b h).flags ≡ true → is_writable (header b h).flags ≡ true → Fault b l SectionKind h (header_place b h + 8)
   empty_code : (h : ℕ) → IsHeader b h → is_exec (header b h).flags ≡ true → (header b h).kind ≡ nobits → Fault b l SectionKind h (header_place b h + 8)
-  own_map : (h : ℕ) → IsHeader b h → is_input_limit l ≡ true → same_name (section_name b h) map_name ≡ true → Fault b l SectionKind h (header_place b h)
+  own_map : (h : ℕ) → IsHeader b h → is_input_limit l ≡ true → is_map b h ≡ true → Fault b l SectionKind h (header_place b h)
 
 -- The lowest number comes first, then the lowest section, then the lowest offset.
 abbrev pub ComesBefore : Refusal → ℕ → ℕ → Spot → Type 0

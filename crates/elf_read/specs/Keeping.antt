@@ -5,9 +5,8 @@ use Rattle.elf_model.specs.declared.refusals.Limit.{Limit}
 use Rattle.elf_model.specs.Constants.{symtab, rel, nobits}
 use Rattle.elf_model.specs.Fields.{half_at, word_at, same_name}
 use Rattle.elf_model.specs.Objects.{is_alloc, is_exec, is_writable}
-use Rattle.elf_model.specs.Maps.{map_name}
 use Rattle.elf_model.specs.Files.{header, header_count, section_name, is_table, is_dropped, is_refused_kind, headers, is_kept, is_kept_symbol, symbol_places, symbol_table}
-use Rattle.elf_read.specs.Faults.{IsSymbolAt, IsRelocAt, IsKeptSymbol, names_no_section, is_code_header, is_memory_kind}
+use Rattle.elf_read.specs.Faults.{IsSymbolAt, IsRelocAt, IsKeptSymbol, names_no_section, is_code_header, is_memory_kind, is_map}
 
 -- for each header whether its section is kept; the null header is not
 abbrev pub kept_flags : List ℕ → List Bool
@@ -46,7 +45,7 @@ symbols_at b h = if (header b h).kind == symtab then (header b h).size / 16 - 1 
 -- limit is that of `harden`.
 abbrev pub kind_tests : List ℕ → Bool → ℕ → List (ℕ × Bool)
 kind_tests b input h =
-    (0, input && same_name (section_name b h) map_name)
+    (0, input && is_map b h)
     ∷ (4, is_refused_kind (header b h).kind || (is_alloc (header b h).flags && (not (is_memory_kind (header b h).kind) && (is_table (header b h).kind || not (is_dropped b h)))))
     ∷ (8, is_exec (header b h).flags && (is_writable (header b h).flags || ((header b h).kind == nobits)))
     ∷ []

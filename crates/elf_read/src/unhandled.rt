@@ -5,7 +5,7 @@ ghost use Rattle.elf_model.specs.declared.refusals.Refusal.TheVariants.{SectionK
 ghost use Rattle.elf_model.specs.Fields.{same_name};
 ghost use Rattle.elf_model.specs.Files.{section_name};
 ghost use Rattle.elf_model.specs.Maps.{map_name};
-ghost use Rattle.elf_read.specs.Faults.{Fault, IsHeader, is_input_limit};
+ghost use Rattle.elf_read.specs.Faults.{Fault, IsHeader, is_input_limit, is_map};
 ghost use Rattle.elf_read.specs.HeaderFaults.{IsTabled};
 ghost use Rattle.elf_read.specs.Keeping.{kind_tests};
 ghost use Rattle.elf_read.specs.Places.{IsLowest, first_of};
@@ -14,7 +14,7 @@ use crate::headers::{count, header_at, place};
 use crate::keeping::{is_dropped, name_start};
 use crate::kinds::{is_alloc, is_exec, is_memory_kind, is_refused_kind, is_table, is_writable};
 use crate::places::Place;
-use crate::tables::NOBITS;
+use crate::tables::{NOBITS, REL};
 use elf_model::Limit;
 
 /// Whether the limit is that of `harden`.
@@ -29,12 +29,22 @@ fn is_input_limit(limit: &Limit) -> bool
 }
 
 /// Whether a section has the name of an address map.
-fn is_map(bytes: &[u8], h: usize) -> bool
+fn has_map_name(bytes: &[u8], h: usize) -> bool
     requires tabled { IsTabled bytes.now }
     requires listed { IsHeader bytes.now h }
     ensures { result ≡ same_name (section_name bytes.now h) map_name }
 {
     name_start(bytes, h, 15) == b".skipguard.map".as_slice()
+}
+
+/// Whether a section is an address map, by its name. Those of relocation sections are not looked at.
+fn is_map(bytes: &[u8], h: usize) -> bool
+    requires tabled { IsTabled bytes.now }
+    requires listed { IsHeader bytes.now h }
+    ensures { result ≡ is_map bytes.now h }
+{
+    let header = header_at(bytes, h);
+    header.kind != REL && has_map_name(bytes, h)
 }
 
 /// The first offset of a section header, from its start, at which it is of no kind that is handled.

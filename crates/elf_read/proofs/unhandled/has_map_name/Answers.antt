@@ -4,7 +4,7 @@ use Rattle.elf_model.specs.Fields.{half_at, same_name}
 use Rattle.elf_model.specs.Files.{header, contents}
 use Rattle.elf_model.specs.Maps.{map_name}
 use Rattle.elf_read.proofs.ShortNames.{short_name}
-use Rattle.elf_read.proofs.unhandled.is_map.Goals as goal
+use Rattle.elf_read.proofs.unhandled.has_map_name.Goals as goal
 
 pub returns : goal.returns
 returns c =
