@@ -7,6 +7,8 @@ mod legal;
 mod machines;
 mod moves;
 mod plans;
+#[cfg(test)]
+mod tests;
 mod texts;
 
 pub use machines::{Machine, Moved, Outcome};

@@ -10,6 +10,8 @@ mod jumps;
 mod operands;
 mod parts;
 mod placements;
+#[cfg(test)]
+mod tests;
 
 pub use cores::{Core, it_after};
 pub use effects::apply;
