@@ -1,11 +1,11 @@
 -- Relocations that are wrong.
-use Rattle.std.proofs.Common.{◌≡◌, ◌≢◌, ◌≤◌, ◌<◌, ◌⊎◌, ℕ, ◌+◌, ◌-◌, ◌*◌, ◌/◌, ◌%◌, Bool, true, false, cond, not, ◌||◌, ◌&&◌, List, [], ◌∷◌, length, Option, Some, None, inl, inr, arith, refl, sym, ap, ◌∙◌, subst}
-use Rattle.std.specs.Prelude.{nat_lt, nat_le, ◌==◌, if◌then◌else◌, is_some, IfNone}
+use Rattle.std.proofs.Common.{◌≡◌, ◌≢◌, ◌≤◌, ◌<◌, ◌⊎◌, ℕ, ◌+◌, ◌*◌, ◌/◌, ◌%◌, Bool, true, false, cond, not, ◌||◌, ◌&&◌, List, length, Option, Some, None, inl, inr, arith, refl, sym, ap, ◌∙◌, subst}
+use Rattle.std.specs.Prelude.{nat_lt, ◌==◌, is_some, IfNone}
 use Rattle.std.specs.declared.cmp.Ordering.{Ordering}
 use Rattle.std.specs.Ordering.{nat_cmp, ordering_then, is_eq}
 use Rattle.std.specs.declared.cmp.Ordering.TheVariants.{Less, Equal, Greater}
 use Rattle.std.specs.BTreeSet.{BTreeSet, contains}
-use Rattle.std.proofs.lemmas.Bool.{cases_lt, cases_eq, cases_order, cases_Bool, and_parts, and_from, or_cases, or_parts, or_left, or_right, eqb-true, eqb-false, eq-eqb, ne_eqb, lt-ltb, le-ltb, ltb-true, ltb-false, leb-true, leb-false, le-leb, lt-leb, not-true, not-false, not_from_false, not_from_true, both_ways, false≢true, true≢false}
+use Rattle.std.proofs.lemmas.Bool.{cases_lt, cases_eq, cases_order, cases_Bool, and_parts, and_from, or_cases, or_parts, or_left, or_right, eqb-true, eqb-false, eq-eqb, ne_eqb, lt-ltb, le-ltb, ltb-true, leb-false, lt-leb, not-true, not-false, not_from_false, both_ways, false≢true, true≢false}
 use Rattle.elf_model.specs.declared.refusals.Limit.{Limit}
 use Rattle.elf_model.specs.declared.refusals.Refusal.TheVariants.{BadReloc}
 use Rattle.elf_model.specs.Constants.{rel, nobits}
@@ -15,12 +15,12 @@ use Rattle.elf_read.specs.declared.places.Place.{Place}
 use Rattle.elf_read.specs.Faults.{Fault, IsHeader, IsRelocAt, IsKeptSymbol, reloc_width}
 use Rattle.elf_read.specs.Faults.Fault.{bad_symbol, bad_place, second_place, nobits_target}
 use Rattle.elf_read.specs.HeaderFaults.{IsTabled}
-use Rattle.elf_read.specs.Keeping.{flag_at, symbol_flags, is_kept_relocs}
+use Rattle.elf_read.specs.Keeping.{flag_at, is_kept_relocs}
 use Rattle.elf_read.specs.Places.{IsLowest, lower_of, first_of}
 use Rattle.elf_read.specs.RelocFaults.{IsEarlier, pair_cmp, AreTaken, BadEntry, EntryFault, TargetFault, RelocFault, IsLowestIn, entry_tests}
 use Rattle.elf_read.specs.RelocFaults.RelocFault.{by_entry, by_target}
 use Rattle.elf_read.proofs.FirstTests.{HoldsIn, IsFirstOf, first_of_first}
-use Rattle.elf_read.proofs.Lowest.{NoneUnder, under_more, lowest_at, lowest_none}
+use Rattle.elf_read.proofs.Lowest.{NoneUnder, under_more, lowest_at}
 
 -- equal pairs
 

@@ -1,22 +1,21 @@
 -- The lists of the object's parts, one header or one entry after another.
-use Rattle.std.proofs.Common.{◌≡◌, ◌≢◌, ◌≤◌, ◌<◌, ◌⊎◌, ℕ, zero, suc, ◌+◌, ◌-◌, ◌*◌, ◌/◌, ◌%◌, Bool, true, false, cond, not, ◌||◌, ◌&&◌, List, [], ◌∷◌, ◌++◌, length, get_or, take, append_assoc, length-append, Option, Some, None, inl, inr, arith, refl, sym, ap, ◌∙◌, subst, map, filter}
+use Rattle.std.proofs.Common.{◌≡◌, ◌≢◌, ◌≤◌, ◌<◌, ℕ, zero, suc, ◌+◌, ◌-◌, ◌*◌, ◌/◌, Bool, true, false, cond, ◌&&◌, List, [], ◌∷◌, ◌++◌, length, take, append_assoc, length-append, Option, Some, None, inl, inr, arith, refl, sym, ap, ◌∙◌, subst, map, filter}
 use Rattle.std.specs.Prelude.{nat_lt, count_by, slice_index, ◌==◌, if◌then◌else◌}
 use Rattle.std.specs.List.{list_any, flat_map}
-use Rattle.std.proofs.lemmas.Bool.{cases_lt, cases_eq, cases_Bool, or_cases, eq-eqb, ne_eqb, eqb-true, lt-ltb, le-ltb, false≢true, not_from_true, not_from_false}
+use Rattle.std.proofs.lemmas.Bool.{cases_eq, ne_eqb, lt-ltb, le-ltb}
 use Rattle.std.proofs.lemmas.List.{map-append, map-id, append-nil}
 use Rattle.std.proofs.lemmas.List.Concat.{flat_map-append}
 use Rattle.std.proofs.lemmas.List.Elements.{filter-append}
-use Rattle.elf_model.specs.Constants.{rel, symtab, undefined_index, absolute_index}
-use Rattle.elf_model.specs.Fields.{half_at, word_at}
-use Rattle.elf_model.specs.Files.{from, header, header_count, headers, is_kept, kept_headers, is_kept_symbol, kept_symbols, symbol_table, symbol_places, section_number, symbol_number, is_reloc_table, entries_of, reloc_entries, reloc_of, home_of, IsKind}
+use Rattle.elf_model.specs.Constants.{rel, undefined_index, absolute_index}
+use Rattle.elf_model.specs.Files.{from, header, header_count, headers, is_kept, kept_headers, is_kept_symbol, kept_symbols, symbol_table, symbol_places, section_number, symbol_number, is_reloc_table, entries_of, reloc_of, home_of}
 use Rattle.elf_model.specs.declared.objects.Reloc.{Reloc}
 use Rattle.elf_model.specs.declared.objects.Home.TheVariants as home
-use Rattle.elf_model.proofs.Lists.{count_cons, map-map}
-use Rattle.elf_read.specs.Faults.{IsHeader, IsRelocAt, IsKeptSymbol}
+use Rattle.elf_model.proofs.Lists.{count_cons}
+use Rattle.elf_read.specs.Faults.{IsHeader, IsKeptSymbol}
 use Rattle.elf_read.specs.HeaderFaults.{IsTabled}
-use Rattle.elf_read.specs.Keeping.{kept_flags, symbol_flags, flag_at, AreCounts, HasHomes, is_kept_relocs, is_some_reloc}
+use Rattle.elf_read.specs.Keeping.{kept_flags, symbol_flags, AreCounts, is_kept_relocs, is_some_reloc}
 use Rattle.elf_read.proofs.Flags.{from_more, any_flag, flag_is}
-use Rattle.elf_read.proofs.KeptSymbols.{past, flags_are, symbol_table_is, length_made}
+use Rattle.elf_read.proofs.KeptSymbols.{flags_are, symbol_table_is, length_made}
 
 -- one more number is made and kept, or dropped
 kept_one : {X Y : Type 0} (p : X → Bool) (g : X → Y) (x : X) → map g (filter p (x ∷ [])) ≡ cond (p x) (g x ∷ []) []

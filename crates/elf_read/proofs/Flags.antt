@@ -1,13 +1,13 @@
 -- Lists of flags over the numbers from one on.
-use Rattle.std.proofs.Common.{◌≡◌, ◌≤◌, ◌<◌, ℕ, zero, suc, ◌+◌, ◌-◌, ◌*◌, ◌/◌, Bool, true, false, cond, ◌||◌, List, [], ◌∷◌, ◌++◌, length, get_or, take, append_assoc, refl, sym, ap, ◌∙◌, subst, inl, inr, ◌⊎◌, arith, map, filter}
-use Rattle.std.specs.Prelude.{count_by, find, nat_lt, ◌==◌, None, Some}
+use Rattle.std.proofs.Common.{◌≡◌, ◌≤◌, ◌<◌, ℕ, zero, suc, ◌+◌, ◌-◌, ◌*◌, ◌/◌, Bool, true, false, cond, ◌||◌, List, [], ◌∷◌, ◌++◌, get_or, append_assoc, refl, sym, ap, ◌∙◌, subst, inl, inr, arith, map, filter}
+use Rattle.std.specs.Prelude.{find, ◌==◌, None, Some}
 use Rattle.std.specs.List.{list_any}
-use Rattle.std.proofs.lemmas.Bool.{cases_lt, cases_eq, lt-ltb, le-ltb, eq-eqb, ne_eqb}
+use Rattle.std.proofs.lemmas.Bool.{cases_eq, eq-eqb, ne_eqb}
 use Rattle.std.proofs.lemmas.List.{map-append}
 use Rattle.elf_model.specs.Constants.{undefined_index, absolute_index}
 use Rattle.elf_model.specs.Fields.{half_at}
-use Rattle.elf_model.specs.Files.{from, header, header_count, headers, kept_headers, is_kept, is_kept_symbol, symbol_table, symbol_places}
-use Rattle.elf_model.proofs.Lists.{from-append, count_cons, find_from, map-map}
+use Rattle.elf_model.specs.Files.{from, header, header_count, is_kept, is_kept_symbol, symbol_table, symbol_places}
+use Rattle.elf_model.proofs.Lists.{from-append, find_from, map-map}
 use Rattle.elf_read.specs.Faults.{IsHeader}
 use Rattle.elf_read.specs.Keeping.{kept_flags, symbol_flags, flag_at}
 

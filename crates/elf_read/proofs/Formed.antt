@@ -1,12 +1,11 @@
 -- A file without faults is whole.
-use Rattle.std.proofs.Common.{◌≡◌, ◌≢◌, ◌≤◌, ◌<◌, ◌⊎◌, ℕ, ◌+◌, ◌*◌, ◌/◌, ◌%◌, ◌^◌, Bool, true, false, List, [], ◌∷◌, length, take, inl, inr, arith, refl, sym, ap, ◌∙◌, subst}
-use Rattle.std.proofs.lemmas.Bool.{cases_lt, cases_eq, cases_Bool, true_from_ne_false, false_from_ne_true, both_ways}
+use Rattle.std.proofs.Common.{◌≡◌, ◌≢◌, ◌≤◌, ℕ, ◌+◌, ◌/◌, List, [], ◌∷◌, length, inl, inr, arith, refl, ap, ◌∙◌}
+use Rattle.std.proofs.lemmas.Bool.{cases_Bool, both_ways}
 use Rattle.elf_model.specs.declared.refusals.Limit.{Limit}
-use Rattle.elf_model.specs.declared.refusals.Refusal.TheVariants.{NotElf, NotArmRel, BadTable, BadName, BadSymbol, BadReloc, TooMany, SectionKind}
-use Rattle.elf_model.specs.Constants.{symtab, rel}
+use Rattle.elf_model.specs.declared.refusals.Refusal.TheVariants.{NotElf, NotArmRel, BadTable, BadName, BadSymbol, BadReloc}
 use Rattle.elf_model.specs.Fields.{half_at, word_at}
-use Rattle.elf_model.specs.Files.{header, header_count, IsArmObject, HasTables}
-use Rattle.elf_read.specs.Faults.{Fault, IsFaultless, IsFaultlessBelow, IsRelocAt, IsKeptSymbol, names_no_section}
+use Rattle.elf_model.specs.Files.{IsArmObject, HasTables}
+use Rattle.elf_read.specs.Faults.{Fault, IsFaultlessBelow, names_no_section}
 use Rattle.elf_read.specs.Faults.Fault.{too_short, other_magic, other_class, other_order, other_type, other_machine, other_version, other_header_size, bad_symbol}
 use Rattle.elf_read.specs.Keeping.{HasHomes, HasSymbols, flag_at, symbol_flags}
 use Rattle.elf_read.specs.HeaderFaults.{IsTabled}

@@ -1,11 +1,11 @@
 -- The flags of symbols say which ones stay.
-use Rattle.std.proofs.Common.{◌≡◌, ◌≢◌, ◌≤◌, ◌<◌, ◌⊎◌, ℕ, zero, suc, ◌+◌, ◌-◌, ◌*◌, ◌/◌, ◌^◌, Bool, true, false, cond, ◌||◌, List, [], ◌∷◌, ◌++◌, length, get_or, Option, Some, None, inl, inr, arith, refl, sym, ap, ◌∙◌, subst, map}
+use Rattle.std.proofs.Common.{◌≡◌, ◌≢◌, ◌≤◌, ◌<◌, ◌⊎◌, ℕ, zero, suc, ◌+◌, ◌-◌, ◌*◌, ◌/◌, ◌^◌, Bool, true, false, cond, ◌||◌, List, [], ◌∷◌, length, Option, Some, None, inl, inr, arith, refl, sym, ap, ◌∙◌, subst, map}
 use Rattle.std.specs.Prelude.{find, ◌==◌}
-use Rattle.std.proofs.lemmas.Bool.{cases_lt, cases_eq, cases_Bool, or_cases, or_left, or_right, eq-eqb, ne_eqb, eqb-true, false≢true}
+use Rattle.std.proofs.lemmas.Bool.{cases_eq, or_cases, or_left, or_right, eq-eqb, ne_eqb, eqb-true, false≢true}
 use Rattle.std.proofs.lemmas.Option.{none-some, same_Some}
 use Rattle.elf_model.specs.Constants.{symtab, undefined_index, absolute_index}
 use Rattle.elf_model.specs.Fields.{half_at}
-use Rattle.elf_model.specs.Files.{from, header, header_count, headers, is_kept, is_kept_symbol, symbol_table, symbol_places, IsKind}
+use Rattle.elf_model.specs.Files.{from, header, header_count, is_kept, is_kept_symbol, symbol_table, symbol_places, IsKind}
 use Rattle.elf_model.proofs.Lists.{map-map}
 use Rattle.elf_read.specs.Faults.{IsHeader, IsSymbolAt, IsKeptSymbol, names_no_section}
 use Rattle.elf_read.specs.HeaderFaults.{IsTabled}

@@ -1,10 +1,9 @@
 -- Sections of kinds that aren't handled.
-use Rattle.std.proofs.Common.{◌≡◌, ◌<◌, ◌≤◌, ◌⊎◌, ℕ, ◌+◌, ◌*◌, Bool, true, false, not, ◌&&◌, ◌||◌, List, Option, Some, None, inl, inr, arith, refl, sym, ap, ◌∙◌, subst}
+use Rattle.std.proofs.Common.{◌≡◌, ◌≤◌, ◌⊎◌, ℕ, ◌+◌, Bool, true, false, not, ◌||◌, List, Option, Some, None, inl, inr, arith, refl, sym, subst}
 use Rattle.std.proofs.lemmas.Bool.{and_parts, and_from, or_cases, or_left, or_right, eqb-true, eq-eqb, not-true, not_from_false}
 use Rattle.elf_model.specs.declared.refusals.Limit.{Limit}
 use Rattle.elf_model.specs.declared.refusals.Refusal.TheVariants.{SectionKind}
-use Rattle.elf_model.specs.Constants.{nobits}
-use Rattle.elf_model.specs.Fields.{word_at, same_name}
+use Rattle.elf_model.specs.Fields.{same_name}
 use Rattle.elf_model.specs.Files.{header, header_count, header_place, section_name, is_table, is_dropped}
 use Rattle.elf_model.specs.Maps.{map_name}
 use Rattle.elf_read.specs.declared.places.Place.{Place}

@@ -1,14 +1,13 @@
 -- The numbers that the limit is about.
-use Rattle.std.proofs.Common.{◌≡◌, ◌<◌, ◌≤◌, ◌≢◌, ◌⊎◌, ℕ, ◌+◌, ◌-◌, ◌*◌, ◌/◌, Bool, true, false, cond, ◌&&◌, ◌||◌, List, [], ◌∷◌, ◌++◌, Option, Some, None, inl, inr, arith, refl, sym, ap, ◌∙◌, subst, filter, zero-add}
-use Rattle.std.specs.Prelude.{nat_lt, sum_by, ◌==◌, if◌then◌else◌}
-use Rattle.std.proofs.lemmas.Bool.{and_parts, and_from, or_cases, or_parts, or_left, or_right, eqb-true, eq-eqb, ltb-true, ltb-false, cases_Bool, cases_eq, false≢true}
+use Rattle.std.proofs.Common.{◌≡◌, ◌<◌, ◌≤◌, ◌≢◌, ℕ, ◌+◌, ◌-◌, ◌/◌, Bool, true, false, cond, ◌||◌, List, [], ◌∷◌, Some, None, inl, inr, arith, refl, sym, ap, ◌∙◌, filter, zero-add}
+use Rattle.std.specs.Prelude.{nat_lt, sum_by, ◌==◌}
+use Rattle.std.proofs.lemmas.Bool.{and_parts, and_from, or_cases, or_parts, eqb-true, eq-eqb, ltb-true, ltb-false}
 use Rattle.std.proofs.lemmas.List.Elements.{filter-append}
 use Rattle.std.proofs.lemmas.List.Sums.{sum_by-append, sum_by_push}
 use Rattle.elf_model.specs.declared.refusals.Limit.{Limit}
 use Rattle.elf_model.specs.declared.refusals.Refusal.TheVariants.{TooMany}
-use Rattle.elf_model.specs.Constants.{rel, symtab}
-use Rattle.elf_model.specs.Fields.{word_at}
-use Rattle.elf_model.specs.Files.{from, header, header_count, header_place, is_kept}
+use Rattle.elf_model.specs.Constants.{symtab}
+use Rattle.elf_model.specs.Files.{from, header, header_count, header_place}
 use Rattle.elf_read.specs.declared.places.Place.{Place}
 use Rattle.elf_read.specs.Faults.{Fault, IsHeader, relocs_up_to, code_up_to, is_code_header}
 use Rattle.elf_read.specs.Faults.Fault.{many_headers, many_symbols, many_relocs, much_code}

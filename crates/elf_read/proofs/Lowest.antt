@@ -1,8 +1,8 @@
 -- The lowest place of a relation, found header by header.
-use Rattle.std.proofs.Common.{◌≡◌, ◌≤◌, ◌<◌, ℕ, ◌+◌, ◌⊎◌, inl, inr, Option, Some, None, sym, subst, arith}
+use Rattle.std.proofs.Common.{◌≡◌, ◌<◌, ℕ, ◌+◌, inl, inr, Some, None, sym, subst, arith}
 use Rattle.std.proofs.lemmas.Bool.{cases_eq}
 use Rattle.elf_read.specs.declared.places.Place.{Place}
-use Rattle.elf_read.specs.Places.{IsBelow, IsLowest}
+use Rattle.elf_read.specs.Places.{IsLowest}
 
 -- it holds at no header below h
 abbrev pub NoneUnder : (ℕ → ℕ → Type 0) → ℕ → Type 0

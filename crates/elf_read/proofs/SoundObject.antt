@@ -1,9 +1,9 @@
 -- What is read of a file without faults is an object.
-use Rattle.std.proofs.Common.{◌≡◌, ◌≢◌, ◌≤◌, ◌<◌, ◌⊎◌, ℕ, zero, suc, ◌+◌, ◌-◌, ◌*◌, ◌/◌, ◌%◌, Bool, true, false, ◌&&◌, List, [], ◌∷◌, length, get_or, Some, None, inl, inr, arith, refl, sym, ap, ◌∙◌, subst, map, filter}
-use Rattle.std.specs.Prelude.{◌==◌, if◌then◌else◌, All, IsPermutation, count_by}
+use Rattle.std.proofs.Common.{◌≡◌, ◌≤◌, ◌<◌, ℕ, ◌+◌, ◌-◌, ◌*◌, ◌/◌, Bool, true, List, [], ◌∷◌, Some, None, arith, refl, sym, ap, ◌∙◌, subst, map, filter}
+use Rattle.std.specs.Prelude.{if◌then◌else◌, All, IsPermutation}
 use Rattle.std.specs.List.{list_all, flat_map}
 use Rattle.std.specs.List.Sorted.{IsSortedByKey}
-use Rattle.std.proofs.lemmas.Bool.{and_from, and_parts, eqb-true, eq-eqb}
+use Rattle.std.proofs.lemmas.Bool.{and_from, eq-eqb}
 use Rattle.std.proofs.lemmas.List.Elements.{All-head, All-tail, All-map, All-filter, filter_passes}
 use Rattle.std.proofs.lemmas.List.Sorted.{All-permutation}
 use Rattle.elf_model.specs.declared.refusals.Limit.{Limit}
@@ -13,17 +13,17 @@ use Rattle.elf_model.specs.declared.objects.Section.{Section}
 use Rattle.elf_model.specs.declared.objects.Symbol.{Symbol}
 use Rattle.elf_model.specs.declared.objects.Reloc.{Reloc}
 use Rattle.elf_model.specs.Fields.{word_at}
-use Rattle.elf_model.specs.Objects.{ObjectParts, is_object, is_section, is_symbol, locals_first, is_reloc, rise, is_version_5, made_of}
-use Rattle.elf_model.specs.Files.{from, header, header_count, headers, section_of, kept_headers, symbol_of, kept_symbols, is_reloc_table, entries_of, reloc_entries, reloc_of, section_number, StandsFor}
-use Rattle.elf_read.specs.Faults.{Fault, IsFaultless, IsHeader, IsRelocAt}
-use Rattle.elf_read.specs.Keeping.{is_some_reloc, is_kept_relocs}
+use Rattle.elf_model.specs.Objects.{ObjectParts, is_object, is_reloc, made_of}
+use Rattle.elf_model.specs.Files.{header, header_count, headers, section_of, kept_headers, symbol_of, kept_symbols, is_reloc_table, entries_of, reloc_entries, reloc_of, StandsFor}
+use Rattle.elf_read.specs.Faults.{IsFaultless, IsHeader, IsRelocAt}
+use Rattle.elf_read.specs.Keeping.{is_some_reloc}
 use Rattle.elf_read.specs.RelocFaults.{pair_cmp}
 use Rattle.elf_read.proofs.Formed.{IsFormed, formed, has_symbols}
 use Rattle.elf_read.proofs.BadRelocs.{entry_at}
 use Rattle.elf_read.proofs.BuiltLists.{reloc_table_is}
 use Rattle.elf_read.proofs.SoundSections.{sections_good}
 use Rattle.elf_read.proofs.SoundParts.{symbols_good, locals_are_first, reloc_good, one_place}
-use Rattle.elf_read.proofs.SoundOrder.{Apart, Differ, same_place, key_of, all_entries, apart_entries, apart_filter, apart_map, count_apart, once_moved, rise_sorted}
+use Rattle.elf_read.proofs.SoundOrder.{Apart, Differ, key_of, all_entries, apart_entries, apart_filter, apart_map, count_apart, once_moved, rise_sorted}
 
 all_test : {X : Type 0} (p : X → Bool) (xs : List X) → All (λ x. p x ≡ true) xs → list_all p xs ≡ true
 all_test p [] a = refl

@@ -1,30 +1,27 @@
 -- The symbols and relocations that are kept of a file without faults are those of an object.
-use Rattle.std.proofs.Common.{◌≡◌, ◌≢◌, ◌≤◌, ◌<◌, ◌⊎◌, ℕ, zero, suc, ◌+◌, ◌-◌, ◌*◌, ◌/◌, ◌%◌, Bool, true, false, cond, not, ◌||◌, ◌&&◌, List, [], ◌∷◌, ◌++◌, length, get_or, Option, Some, None, inl, inr, arith, refl, sym, ap, ◌∙◌, subst, map, filter}
-use Rattle.std.specs.Prelude.{nat_lt, nat_le, count_by, slice_get, ◌==◌, if◌then◌else◌, All}
-use Rattle.std.specs.List.{list_all, list_any, flat_map}
-use Rattle.std.proofs.lemmas.Bool.{cases_lt, cases_eq, cases_Bool, and_parts, and_from, or_cases, or_parts, or_left, or_right, eqb-true, eq-eqb, ne_eqb, le-leb, lt-ltb, not-true, not_from_false, both_ways, false_from_ne_true, false≢true}
+use Rattle.std.proofs.Common.{◌≡◌, ◌≢◌, ◌≤◌, ◌<◌, ◌⊎◌, ℕ, zero, suc, ◌+◌, ◌-◌, ◌*◌, ◌/◌, ◌%◌, Bool, true, false, cond, not, ◌||◌, List, ◌∷◌, length, Option, Some, None, inl, inr, arith, refl, sym, ap, ◌∙◌, map, filter}
+use Rattle.std.specs.Prelude.{nat_lt, nat_le, count_by, slice_get, ◌==◌, if◌then◌else◌}
+use Rattle.std.specs.List.{list_all, list_any}
+use Rattle.std.proofs.lemmas.Bool.{cases_lt, cases_eq, and_from, or_left, or_right, eq-eqb, ne_eqb, le-leb, lt-ltb, not-true, not_from_false, both_ways}
 use Rattle.std.proofs.lemmas.Bool.Decides.{nat_tests}
 use Rattle.std.proofs.lemmas.Option.{slice_get_within}
-use Rattle.std.proofs.lemmas.List.Elements.{All-nil, All-cons, All-append}
 use Rattle.elf_model.specs.declared.refusals.Limit.{Limit}
 use Rattle.elf_model.specs.declared.refusals.Refusal.TheVariants.{BadReloc}
 use Rattle.elf_model.specs.declared.objects.Section.{Section}
 use Rattle.elf_model.specs.declared.objects.Symbol.{Symbol}
-use Rattle.elf_model.specs.declared.objects.Home.{Home}
 use Rattle.elf_model.specs.declared.objects.Home.TheVariants as home
-use Rattle.elf_model.specs.Constants.{symtab, rel, nobits, local, func, undefined_index, absolute_index}
-use Rattle.elf_model.specs.Fields.{byte_at, half_at, word_at}
-use Rattle.elf_model.specs.Objects.{is_name, is_symbol, is_inside, is_at_home, has_home, locals_first, place_width, is_kind, is_placed, is_reloc}
-use Rattle.elf_model.specs.Files.{from, header, header_count, headers, is_kept, kept_headers, section_of, section_number, is_kept_symbol, kept_symbols, symbol_table, symbol_places, symbol_name, symbol_of, symbol_number, home_of, text_at, reloc_kind, reloc_of, entries_of, is_reloc_table, IsKind}
+use Rattle.elf_model.specs.Constants.{symtab, rel, nobits, local, undefined_index, absolute_index}
+use Rattle.elf_model.specs.Fields.{half_at, word_at}
+use Rattle.elf_model.specs.Objects.{is_name, is_symbol, is_at_home, has_home, locals_first, place_width, is_kind, is_placed, is_reloc}
+use Rattle.elf_model.specs.Files.{from, header, is_kept, kept_headers, section_of, section_number, is_kept_symbol, kept_symbols, symbol_table, symbol_places, symbol_name, symbol_of, symbol_number, home_of, reloc_kind, reloc_of, IsKind}
 use Rattle.elf_model.proofs.Lists.{get_map}
-use Rattle.elf_read.specs.Faults.{Fault, IsHeader, IsSymbolAt, IsRelocAt, IsKeptSymbol, names_no_section, place_of, reloc_width}
+use Rattle.elf_read.specs.Faults.{Fault, IsHeader, IsSymbolAt, IsRelocAt, IsKeptSymbol, names_no_section, reloc_width}
 use Rattle.elf_read.specs.Faults.Fault.{bad_place, second_place, nobits_target}
 use Rattle.elf_read.specs.HeaderFaults.{IsTabled}
-use Rattle.elf_read.specs.Keeping.{HasHomes, HasSymbols, is_kept_relocs, is_some_reloc}
+use Rattle.elf_read.specs.Keeping.{HasHomes, HasSymbols, is_some_reloc}
 use Rattle.elf_read.specs.SymbolFaults.{AreSymbols}
 use Rattle.elf_read.specs.Texts.{IsNamed}
 use Rattle.elf_read.proofs.KeptSymbols.{symbol_table_is, symbol_table_found, kept_home, symbol_flag_is, flag_from_kept}
-use Rattle.elf_read.proofs.BuiltLists.{reloc_table_is}
 use Rattle.elf_read.proofs.SoundSections.{text_is_name, get_numbered, all_good, section_there, number_tells}
 
 -- no local symbol behind another one

@@ -1,18 +1,17 @@
 -- The sections that are kept of a file without faults are those of an object.
-use Rattle.std.proofs.Common.{◌≡◌, ◌≢◌, ◌≤◌, ◌<◌, ◌⊎◌, ℕ, zero, suc, ◌+◌, ◌-◌, ◌*◌, ◌/◌, ◌%◌, Bool, true, false, cond, not, ◌||◌, ◌&&◌, List, [], ◌∷◌, ◌++◌, length, get_or, take, drop, Option, Some, None, inl, inr, arith, refl, sym, ap, ◌∙◌, subst, map, filter, max}
+use Rattle.std.proofs.Common.{◌≡◌, ◌≢◌, ◌≤◌, ◌<◌, ℕ, zero, suc, ◌+◌, ◌-◌, Bool, true, false, cond, not, ◌||◌, ◌&&◌, List, [], ◌∷◌, length, get_or, take, drop, Some, inl, inr, arith, refl, sym, ap, ◌∙◌, subst, map, filter, max}
 use Rattle.std.specs.Prelude.{nat_lt, nat_le, count_by, slice_get, ◌==◌, if◌then◌else◌}
-use Rattle.std.specs.List.{list_all, list_any, position_or_len, before_first}
+use Rattle.std.specs.List.{list_all, list_any, position_or_len}
 use Rattle.std.proofs.Math.Nat.{max-eq_right}
-use Rattle.std.proofs.lemmas.Bool.{cases_lt, cases_eq, cases_Bool, and_parts, and_from, and_right, or_cases, or_parts, or_left, or_right, eqb-true, eq-eqb, ne_eqb, le-leb, lt-ltb, le-ltb, not-true, not-false, not_from_false, both_ways, false_from_ne_true, true_from_ne_false, false≢true}
+use Rattle.std.proofs.lemmas.Bool.{cases_lt, cases_eq, and_parts, and_from, or_cases, or_parts, eqb-true, eq-eqb, ne_eqb, le-leb, lt-ltb, le-ltb, not-true, not-false, not_from_false, both_ways, false_from_ne_true, true_from_ne_false, false≢true}
 use Rattle.std.proofs.lemmas.List.{map-id}
 use Rattle.std.proofs.lemmas.List.Sums.{fails_before_first}
 use Rattle.std.proofs.lemmas.List.Recursion.{and_from_places}
 use Rattle.std.proofs.lemmas.Option.{same_Some}
 use Rattle.elf_model.specs.declared.refusals.Limit.{Limit}
 use Rattle.elf_model.specs.declared.refusals.Refusal.TheVariants.{BadTable, SectionKind}
-use Rattle.elf_model.specs.declared.objects.Section.{Section}
-use Rattle.elf_model.specs.Constants.{progbits, note, arm_attributes, nobits, symtab, strtab, rel, arm_exidx}
-use Rattle.elf_model.specs.Fields.{byte_at, half_at}
+use Rattle.elf_model.specs.Constants.{progbits, note, arm_attributes, nobits, rel, arm_exidx}
+use Rattle.elf_model.specs.Fields.{half_at}
 use Rattle.elf_model.specs.Objects.{is_name, is_dropped_name, is_alignment, is_kept_kind, is_alloc, is_writable, is_exec, is_section, has_bytes}
 use Rattle.elf_model.specs.Files.{from, header, header_count, headers, contents, text_at, EndsAt, section_name, section_of, is_table, is_refused_kind, is_dropped, is_kept, kept_headers, section_number}
 use Rattle.elf_model.proofs.Lists.{count_cons, get_map}

@@ -43,7 +43,11 @@ fn behind(text: &[u8], at: usize) -> &[u8]
 fn front(text: &[u8], most: usize) -> &[u8]
     ensures { result.now ≡ take most text.now }
 {
-    if most <= text.len() { &text[..most] } else { text }
+    if most <= text.len() {
+        &text[..most]
+    } else {
+        text
+    }
 }
 
 /// The text at an offset of a string table, up to its NUL or to the table's end.
@@ -72,7 +76,12 @@ pub(crate) fn name_start(bytes: &[u8], h: usize, most: usize) -> &[u8]
     requires listed { h < header_count bytes.now }
     ensures { result.now ≡ before_first (λ c. c == 0) (take most (drop (header bytes.now h).name (contents bytes.now (half_at bytes.now 50)))) }
 {
-    text_start(bytes, half(bytes, 50) as usize, header_at(bytes, h).name as usize, most)
+    text_start(
+        bytes,
+        half(bytes, 50) as usize,
+        header_at(bytes, h).name as usize,
+        most,
+    )
 }
 
 /// The name of a section.

@@ -1,6 +1,4 @@
 use Rattle.std.proofs.Common.{subst}
-use Rattle.elf_model.specs.declared.refusals.Limit.{Limit}
-use Rattle.elf_read.specs.Faults.{IsFaultless, IsFaultlessBelow}
 use Rattle.elf_read.specs.FirstFaults.{IsFirstBelow}
 use Rattle.elf_read.proofs.Formed.{formed}
 use Rattle.elf_read.proofs.AllFaults.{all_faultless}

@@ -1,4 +1,4 @@
-use Rattle.std.proofs.Common.{◌≡◌, ◌≢◌, ◌+◌, ℕ, List, sym, ap, ◌∙◌}
+use Rattle.std.proofs.Common.{◌≡◌, ◌≢◌, ◌+◌, ℕ, ap, ◌∙◌}
 use Rattle.std.specs.Prelude.{slice_index}
 use Rattle.elf_model.specs.Constants.{undefined_index, absolute_index}
 use Rattle.elf_model.specs.Fields.{half_at}

@@ -1,5 +1,4 @@
-use Rattle.std.proofs.Common.{◌≡◌, ◌<◌, ◌+◌, ◌*◌, ◌/◌, ◌++◌, ◌∷◌, [], cond, ℕ, List, map, filter, sym, ap, ◌∙◌, subst, arith}
-use Rattle.elf_model.specs.declared.objects.Reloc.{Reloc}
+use Rattle.std.proofs.Common.{◌≡◌, ◌+◌, ◌*◌, ◌/◌, ◌++◌, ◌∷◌, [], cond, ℕ, map, filter, sym, ap, ◌∙◌, subst, arith}
 use Rattle.elf_model.specs.Files.{Header, header, from, reloc_of}
 use Rattle.elf_read.specs.Faults.{IsRelocAt}
 use Rattle.elf_read.specs.Keeping.{is_some_reloc}

@@ -1,4 +1,4 @@
-use Rattle.std.proofs.Common.{◌≤◌, ◌+◌, ◌*◌, arith}
+use Rattle.std.proofs.Common.{◌+◌, ◌*◌, arith}
 use Rattle.elf_model.specs.Files.{is_kept_symbol, symbol_of}
 use Rattle.elf_read.proofs.BuiltLists.{push_kept_from_one}
 use Rattle.elf_read.proofs.building.push_symbols.Goals as goal

@@ -1,6 +1,5 @@
-use Rattle.std.proofs.Common.{◌≡◌, ◌+◌, ◌/◌, ◌%◌, ℕ, List, sym, ap, ◌∙◌}
+use Rattle.std.proofs.Common.{◌≡◌, ◌+◌, ◌/◌, ◌%◌, ℕ, ap, ◌∙◌}
 use Rattle.std.specs.Prelude.{slice_index}
-use Rattle.elf_model.specs.declared.objects.RelocKind.{RelocKind}
 use Rattle.elf_model.specs.Fields.{word_at}
 use Rattle.elf_model.specs.Files.{Header, header, section_number, symbol_number, symbol_table, reloc_kind}
 use Rattle.elf_read.proofs.BuiltLists.{section_number_is, symbol_number_is}

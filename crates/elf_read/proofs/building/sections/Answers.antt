@@ -1,4 +1,4 @@
-use Rattle.std.proofs.Common.{◌≤◌, arith}
+use Rattle.std.proofs.Common.{arith}
 use Rattle.elf_model.specs.Files.{is_kept, section_of}
 use Rattle.elf_read.proofs.BuiltLists.{push_header}
 use Rattle.elf_read.proofs.building.sections.Goals as goal

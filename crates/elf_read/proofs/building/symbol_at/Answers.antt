@@ -1,6 +1,6 @@
-use Rattle.std.proofs.Common.{◌≡◌, ◌≢◌, ◌<◌, ℕ, sym, ap, ◌∙◌, subst, arith}
+use Rattle.std.proofs.Common.{◌≡◌, ◌<◌, ℕ, sym, ap, ◌∙◌, subst, arith}
 use Rattle.elf_model.specs.Constants.{strtab, nobits}
-use Rattle.elf_model.specs.Files.{Header, header, header_count, IsKind}
+use Rattle.elf_model.specs.Files.{Header, header, header_count}
 use Rattle.elf_read.specs.Faults.{IsHeader}
 use Rattle.elf_read.proofs.KeptSymbols.{symbol_table_found}
 use Rattle.elf_read.proofs.building.symbol_at.Goals as goal

@@ -1,4 +1,4 @@
-use Rattle.std.proofs.Common.{◌≡◌, ◌≢◌, ◌<◌, ◌≤◌, ◌+◌, ◌/◌, ℕ, length, sym, ap, ◌∙◌, arith}
+use Rattle.std.proofs.Common.{◌≡◌, ◌≢◌, ◌<◌, ◌/◌, sym, ap, arith}
 use Rattle.elf_model.specs.Constants.{symtab, nobits}
 use Rattle.elf_model.specs.Files.{Header, header, header_count, symbol_of}
 use Rattle.elf_read.proofs.KeptSymbols.{symbol_table_found}

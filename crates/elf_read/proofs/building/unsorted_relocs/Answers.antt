@@ -1,5 +1,4 @@
-use Rattle.std.proofs.Common.{◌≤◌, ◌<◌, arith}
-use Rattle.elf_model.specs.Files.{header_count}
+use Rattle.std.proofs.Common.{arith}
 use Rattle.elf_read.specs.Faults.{IsHeader}
 use Rattle.elf_read.proofs.BuiltLists.{push_header_relocs}
 use Rattle.elf_read.proofs.building.unsorted_relocs.Goals as goal

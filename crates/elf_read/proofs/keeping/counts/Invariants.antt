@@ -1,5 +1,5 @@
-use Rattle.std.proofs.Common.{◌≡◌, ◌≢◌, ◌≤◌, ◌<◌, ◌+◌, ◌-◌, ◌*◌, ◌++◌, ℕ, List, ◌∷◌, [], length, map, take, get_or, Bool, false}
-use Rattle.std.specs.Prelude.{count_by, slice_index}
+use Rattle.std.proofs.Common.{◌≡◌, ◌≤◌, ◌<◌, ℕ, length, take, get_or, Bool}
+use Rattle.std.specs.Prelude.{count_by}
 use Rattle.elf_read.proofs.keeping.counts.Given as goal
 
 abbrev pub invariant-loop-flag : goal.invariant-loop-flag

@@ -1,4 +1,4 @@
-use Rattle.std.proofs.Common.{◌≤◌, ◌∷◌, [], false, arith}
+use Rattle.std.proofs.Common.{◌∷◌, [], false, arith}
 use Rattle.elf_model.specs.Files.{is_kept}
 use Rattle.elf_read.proofs.Flags.{push_made}
 use Rattle.elf_read.proofs.keeping.kept_flags.Goals as goal

@@ -1,4 +1,4 @@
-use Rattle.std.proofs.Common.{◌≡◌, ◌≢◌, ◌≤◌, ◌<◌, ◌+◌, ◌-◌, ◌*◌, ◌++◌, ℕ, List, ◌∷◌, [], length, map, take, get_or, Bool, false}
+use Rattle.std.proofs.Common.{◌≡◌, ◌≤◌, ◌-◌, ◌∷◌, map, false}
 use Rattle.elf_model.specs.Files.{is_kept, from}
 use Rattle.elf_read.proofs.keeping.kept_flags.Given as goal
 

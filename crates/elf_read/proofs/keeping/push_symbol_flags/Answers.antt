@@ -1,4 +1,4 @@
-use Rattle.std.proofs.Common.{◌≡◌, ◌≤◌, ◌+◌, ◌-◌, ◌*◌, ◌++◌, ℕ, map, ap, ◌∙◌, arith}
+use Rattle.std.proofs.Common.{◌≡◌, ◌+◌, ◌-◌, ◌*◌, ◌++◌, ℕ, map, ap, ◌∙◌, arith}
 use Rattle.elf_model.specs.Files.{is_kept_symbol, from}
 use Rattle.elf_read.proofs.Flags.{push_made}
 use Rattle.elf_read.proofs.keeping.push_symbol_flags.Goals as goal

@@ -1,4 +1,4 @@
-use Rattle.std.proofs.Common.{◌≡◌, ◌≢◌, ◌<◌, ◌≤◌, ◌+◌, ◌/◌, ℕ, length, sym, ap, ◌∙◌, subst, arith}
+use Rattle.std.proofs.Common.{◌≡◌, ◌≢◌, ◌<◌, ◌/◌, sym, ap, arith}
 use Rattle.elf_model.specs.Constants.{symtab, nobits}
 use Rattle.elf_model.specs.Files.{Header, header, header_count}
 use Rattle.elf_read.proofs.Flags.{symbol_flags_made}

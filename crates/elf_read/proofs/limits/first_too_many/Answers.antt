@@ -1,10 +1,8 @@
-use Rattle.std.proofs.Common.{◌≡◌, ◌<◌, ◌≤◌, ◌+◌, ◌*◌, ◌^◌, ℕ, false, true, refl, sym, ap, ◌∙◌, length, arith}
-use Rattle.elf_model.specs.Fields.{word_at}
+use Rattle.std.proofs.Common.{◌≤◌, ◌+◌, ℕ, refl, sym, ap, ◌∙◌, arith}
 use Rattle.elf_model.specs.Files.{header_count}
 use Rattle.elf_read.specs.declared.places.Place.{Place}
 use Rattle.elf_read.specs.Faults.{IsHeader}
-use Rattle.elf_read.specs.Keeping.{passes, relocs_at, code_at}
-use Rattle.elf_read.proofs.LimitFaults.{AreSums, many_headers_first, none_first, none_more, sums_more, lowest_here, lowest_nowhere}
+use Rattle.elf_read.proofs.LimitFaults.{many_headers_first, none_first, none_more, sums_more, lowest_here, lowest_nowhere}
 use Rattle.elf_read.proofs.limits.first_too_many.Goals as goal
 
 pub returns-then-n-limit : goal.returns-then-n-limit

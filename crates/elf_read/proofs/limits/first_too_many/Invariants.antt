@@ -1,6 +1,4 @@
-use Rattle.std.proofs.Common.{◌≡◌, ◌≤◌, ◌-◌}
 use Rattle.elf_model.specs.declared.refusals.Refusal.TheVariants.{TooMany}
-use Rattle.elf_model.specs.Files.{header_count}
 use Rattle.elf_read.specs.Faults.{Fault}
 use Rattle.elf_read.proofs.LimitFaults.{AreSums}
 use Rattle.elf_read.proofs.Lowest.{NoneUnder}

@@ -1,10 +1,8 @@
-use Rattle.std.proofs.Common.{◌≡◌, ◌<◌, ◌≤◌, ◌+◌, ◌*◌, ◌/◌, ◌^◌, ℕ, Some, None, refl, sym, ap, ◌∙◌, subst, length, arith, not}
-use Rattle.std.specs.BTreeSet.{contains}
-use Rattle.elf_model.specs.Fields.{word_at}
+use Rattle.std.proofs.Common.{◌≡◌, ◌<◌, ◌+◌, ◌*◌, ◌/◌, ℕ, refl, sym, ap, ◌∙◌, subst, arith}
 use Rattle.elf_model.specs.Files.{Header, header, header_count}
 use Rattle.elf_read.specs.declared.places.Place.{Place}
-use Rattle.elf_read.specs.Faults.{IsHeader, IsRelocAt, IsKeptSymbol}
-use Rattle.elf_read.specs.Keeping.{flag_at, symbol_flags}
+use Rattle.elf_read.specs.Faults.{IsRelocAt, IsKeptSymbol}
+use Rattle.elf_read.specs.Keeping.{flag_at}
 use Rattle.elf_read.proofs.KeptSymbols.{flag_from_kept, kept_from_flag}
 use Rattle.elf_read.proofs.BadRelocs.{target_there, entry_inside, entry_at, taken_more, taken_next, none_more, not_here, small_field, lowest_entry, no_entries}
 use Rattle.elf_read.proofs.reloc_faults.bad_entry.Goals as goal

@@ -1,8 +1,7 @@
-use Rattle.std.proofs.Common.{◌≡◌, ◌<◌, ◌≤◌, ◌+◌, ℕ, refl, sym, ap, ◌∙◌, subst, arith}
+use Rattle.std.proofs.Common.{◌≡◌, ◌<◌, ◌+◌, ℕ, refl, sym, ap, ◌∙◌, subst}
 use Rattle.elf_model.specs.Constants.{nobits}
 use Rattle.elf_model.specs.Files.{Header, header, header_count}
 use Rattle.elf_read.specs.declared.places.Place.{Place}
-use Rattle.elf_read.specs.Faults.{IsHeader}
 use Rattle.elf_read.proofs.BadRelocs.{target_there, lowest_target}
 use Rattle.elf_read.proofs.reloc_faults.bad_target.Goals as goal
 

@@ -1,7 +1,7 @@
 use Rattle.std.proofs.Common.{sym, ◌∙◌, subst, Option}
 use Rattle.elf_read.specs.declared.places.Place.{Place}
 use Rattle.elf_read.specs.RelocFaults.{RelocFault, IsLowestIn}
-use Rattle.elf_read.proofs.BadRelocs.{no_entry_at, taken_next, lowest_of_both, no_relocs}
+use Rattle.elf_read.proofs.BadRelocs.{no_entry_at, taken_next, lowest_of_both}
 use Rattle.elf_read.proofs.reloc_faults.reloc_fault.Goals as goal
 
 pub returns-then-not-is_kept_relocs-clause-taken : goal.returns-then-not-is_kept_relocs-clause-taken

@@ -1,7 +1,6 @@
-use Rattle.std.proofs.Common.{◌≡◌, ◌<◌, ◌≤◌, ◌+◌, ℕ, Option, Some, None, sym, subst, ◌∙◌, arith}
+use Rattle.std.proofs.Common.{Some, None, sym, subst, arith}
 use Rattle.elf_model.specs.declared.refusals.Refusal.TheVariants.{BadReloc, TooMany, SectionKind}
 use Rattle.elf_model.specs.declared.refusals.Spot.{Spot}
-use Rattle.elf_read.specs.declared.places.Place.{Place}
 use Rattle.elf_read.specs.Faults.{Fault, IsFaultlessBelow}
 use Rattle.elf_read.specs.FirstFaults.{IsFirstBelow}
 use Rattle.elf_read.specs.Places.{IsLowest}

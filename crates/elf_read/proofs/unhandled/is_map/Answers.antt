@@ -1,4 +1,4 @@
-use Rattle.std.proofs.Common.{◌≡◌, ◌<◌, List, length, take, drop, ap, ◌∙◌, lit<}
+use Rattle.std.proofs.Common.{◌≡◌, List, drop, ap, ◌∙◌, lit<}
 use Rattle.std.specs.Prelude.{◌==◌}
 use Rattle.elf_model.specs.Fields.{half_at, same_name}
 use Rattle.elf_model.specs.Files.{header, contents}

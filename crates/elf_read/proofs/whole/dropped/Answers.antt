@@ -1,4 +1,4 @@
-use Rattle.std.proofs.Common.{◌≡◌, ◌≤◌, ◌+◌, ◌-◌, ℕ, Bool, cond, not, ◌&&◌, length, filter, sym, ap, ◌∙◌, arith}
+use Rattle.std.proofs.Common.{◌≡◌, ◌+◌, ◌-◌, ℕ, Bool, cond, not, ◌&&◌, length, filter, sym, ap, ◌∙◌, arith}
 use Rattle.elf_model.specs.Files.{from, header, header_count, is_table, is_dropped}
 use Rattle.elf_read.proofs.BuiltLists.{counted_more}
 use Rattle.elf_read.proofs.whole.dropped.Goals as goal

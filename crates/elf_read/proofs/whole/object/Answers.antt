@@ -1,8 +1,6 @@
-use Rattle.std.proofs.Common.{◌≡◌, ◌<◌, ◌≤◌, ◌-◌, ◌^◌, ℕ, true, List, Bool, Some, length, map, refl, sym, ap, ◌∙◌, subst, arith}
+use Rattle.std.proofs.Common.{◌<◌, ◌-◌, ◌^◌, List, Bool, length, sym, ap, ◌∙◌, subst, arith}
 use Rattle.std.specs.Prelude.{is_some}
-use Rattle.elf_model.specs.Fields.{word_at}
-use Rattle.elf_model.specs.Objects.{ObjectParts, is_object, made_of}
-use Rattle.elf_model.specs.Files.{header_count, is_kept, section_of, kept_headers, symbol_of, kept_symbols, StandsFor}
+use Rattle.elf_model.specs.Files.{header_count, is_kept}
 use Rattle.elf_read.proofs.KeptSymbols.{length_made, few_symbol_flags}
 use Rattle.elf_read.proofs.SoundObject.{made_good, made_stands}
 use Rattle.elf_read.proofs.whole.object.Goals as goal
