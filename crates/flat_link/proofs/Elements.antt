@@ -1,6 +1,6 @@
 -- Elements of lists by their numbers.
-use Rattle.std.proofs.Common.{◌≡◌, ◌≤◌, ◌<◌, ℕ, zero, suc, ◌+◌, ◌-◌, Bool, true, false, cond, List, [], ◌∷◌, ◌++◌, length, take, drop, get_or, refl, sym, ap, ◌∙◌, subst, inl, inr, ◌⊎◌, arith, filter, map, Option, Some, None}
-use Rattle.std.specs.Prelude.{Contains, find, slice_get, slice_index_or}
+use Rattle.std.proofs.Common.{◌≡◌, zero, suc, Bool, true, cond, List, [], ◌∷◌, refl, sym, ap, ◌∙◌, subst, inl, inr, ◌⊎◌, arith, filter, map, Some}
+use Rattle.std.specs.Prelude.{Contains, find}
 use Rattle.std.proofs.lemmas.Bool.{cases_Bool, both_ways}
 use Rattle.std.proofs.lemmas.Option.{none-some, same_Some}
 

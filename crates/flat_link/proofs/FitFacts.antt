@@ -1,20 +1,19 @@
 -- What fits stands low.
-use Rattle.std.proofs.Common.{◌≡◌, ◌≤◌, ◌<◌, ℕ, zero, suc, ◌+◌, ◌-◌, ◌%◌, Bool, true, false, cond, List, [], ◌∷◌, ◌++◌, length, get_or, refl, sym, ap, ◌∙◌, subst, arith, inl, inr, ◌⊎◌}
-use Rattle.std.specs.Prelude.{All, slice_get, nat_le, ◌==◌, ◌&&◌, Option, Some, None, unwrap_or, max, if◌then◌else◌}
+use Rattle.std.proofs.Common.{◌≡◌, ◌≤◌, ◌<◌, ℕ, zero, suc, ◌+◌, ◌-◌, ◌%◌, Bool, true, false, cond, List, [], ◌∷◌, length, get_or, refl, sym, ap, ◌∙◌, arith}
+use Rattle.std.specs.Prelude.{All, slice_get, nat_le, ◌==◌, ◌&&◌, Option, Some, None, unwrap_or}
 use Rattle.std.specs.List.{list_all}
-use Rattle.std.proofs.lemmas.Bool.{and_parts, leb-true, cases_Bool}
-use Rattle.std.proofs.lemmas.Option.{none-some, same_Some}
+use Rattle.std.proofs.lemmas.Bool.{and_parts, leb-true}
+use Rattle.std.proofs.lemmas.Option.{none-some}
 use Rattle.elf_model.specs.declared.objects.Section.{Section}
 use Rattle.elf_model.specs.declared.objects.Symbol.{Symbol}
 use Rattle.elf_model.specs.declared.objects.Home.{Home}
 use Rattle.elf_model.specs.declared.objects.Home.TheVariants as home
 use Rattle.elf_model.specs.Constants.{func}
-use Rattle.elf_model.specs.Objects.{is_section, is_symbol, is_inside, is_name, is_at_home, has_home}
+use Rattle.elf_model.specs.Objects.{is_section, is_symbol, is_inside, is_at_home, has_home}
 use Rattle.elf_model.specs.Canonical.{round_up}
 use Rattle.thumb_table.specs.declared.placements.Placement.{Placement}
-use Rattle.thumb_table.specs.Images.{Placed}
 use Rattle.flat_link.specs.declared.places.Sort.TheVariants.{Code, Data}
-use Rattle.flat_link.specs.Placing.{parts_from, end_of, code_starts, can_fit}
+use Rattle.flat_link.specs.Placing.{end_of, code_starts, can_fit}
 use Rattle.flat_link.specs.Symbols.{code_start, IsLow}
 use Rattle.flat_link.proofs.SectionFacts.{each}
 use Rattle.flat_link.proofs.Walks.{end_grows}

@@ -1,13 +1,12 @@
 -- What the linker makes is the image of the object.
-use Rattle.std.proofs.Common.{◌≡◌, ◌≤◌, ◌<◌, ℕ, zero, suc, ◌+◌, ◌-◌, ◌%◌, Bool, true, false, cond, List, [], ◌∷◌, ◌++◌, length, map, filter, take, refl, sym, ap, ◌∙◌, subst, inl, inr, ◌⊎◌, arith, Option, Some, None}
-use Rattle.std.specs.Prelude.{All, Contains, slice_get, max, ◌==◌, ◌&&◌, ◌↔◌}
+use Rattle.std.proofs.Common.{◌≡◌, ◌≤◌, ◌<◌, ℕ, suc, ◌+◌, ◌-◌, Bool, true, false, cond, List, [], ◌∷◌, ◌++◌, length, map, filter, take, refl, sym, ap, ◌∙◌, subst, inl, inr, arith, Option, Some, None}
+use Rattle.std.specs.Prelude.{Contains, slice_get, max, ◌&&◌}
 use Rattle.std.specs.List.{list_all}
-use Rattle.std.proofs.lemmas.Bool.{and_parts, and_from, and_left, cases_Bool, cases_order, both_ways}
-use Rattle.std.proofs.lemmas.Option.{none-some, same_Some, slice_get_within}
+use Rattle.std.proofs.lemmas.Bool.{and_from, and_left, cases_order, both_ways}
+use Rattle.std.proofs.lemmas.Option.{slice_get_within}
 use Rattle.std.proofs.lemmas.List.{append-nil}
 use Rattle.std.proofs.lemmas.List.Elements.{All-cons, All-nil, Contains-append_cases}
 use Rattle.mark_word.specs.Words.{bare}
-use Rattle.elf_model.specs.declared.objects.Section.{Section}
 use Rattle.elf_model.specs.declared.objects.Symbol.{Symbol}
 use Rattle.elf_model.specs.Fields.{same_name}
 use Rattle.elf_model.specs.Objects.{ObjectParts, is_section, is_code}
@@ -19,7 +18,7 @@ use Rattle.thumb_table.specs.Images.{Placed, Defined, placed, chosen, is_data, c
 use Rattle.flat_link.specs.declared.places.Sort.TheVariants.{Code, Data}
 use Rattle.flat_link.specs.Placing.{parts_from, end_of, code_starts, can_fit}
 use Rattle.flat_link.specs.Symbols.{function_place, is_global, is_named, is_second, is_meant, entry_at, entry_list, AreOnce}
-use Rattle.flat_link.specs.Made.{IsMade, IsLinked}
+use Rattle.flat_link.specs.Made.{IsLinked}
 use Rattle.flat_link.proofs.Elements.{contains_none, contains_filter}
 use Rattle.flat_link.proofs.NameFacts.{same_name_self}
 use Rattle.flat_link.proofs.Walks.{bytes_end}

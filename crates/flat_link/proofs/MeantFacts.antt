@@ -1,16 +1,15 @@
 -- What a name stands for.
-use Rattle.std.proofs.Common.{◌≡◌, ◌≤◌, ◌<◌, ℕ, zero, suc, ◌+◌, ◌-◌, Bool, true, false, cond, List, [], ◌∷◌, ◌++◌, length, take, refl, sym, ap, ◌∙◌, subst, inl, inr, ◌⊎◌, arith, Option, Some, None, filter}
-use Rattle.std.specs.Prelude.{Contains, slice_get, find, ◌==◌, ◌&&◌, ◌||◌, not}
-use Rattle.std.specs.List.{list_any}
+use Rattle.std.proofs.Common.{◌≡◌, ◌≤◌, ◌<◌, ℕ, zero, suc, ◌+◌, ◌-◌, Bool, true, false, cond, List, [], ◌∷◌, ◌++◌, take, refl, sym, ap, ◌∙◌, subst, inl, inr, arith, Option, Some, None, filter}
+use Rattle.std.specs.Prelude.{slice_get, find, ◌==◌, ◌&&◌, ◌||◌, not}
 use Rattle.std.specs.Option.{option_or}
-use Rattle.std.proofs.lemmas.Bool.{and_parts, and_from, and_left, or_from, or_left, or_right, or_cases, cases_Bool, cases_order, eqb-true, eq-eqb, ne_eqb, both_ways}
+use Rattle.std.proofs.lemmas.Bool.{and_parts, and_from, and_left, or_from, or_left, or_right, or_cases, cases_Bool, cases_order, eq-eqb, ne_eqb, both_ways}
 use Rattle.std.proofs.lemmas.Option.{none-some, same_Some}
 use Rattle.std.proofs.lemmas.List.{append-nil}
 use Rattle.std.proofs.lemmas.List.Folds.{find-append}
 use Rattle.elf_model.specs.declared.objects.Symbol.{Symbol}
 use Rattle.elf_model.specs.Fields.{same_name}
 use Rattle.elf_model.specs.Objects.{ObjectParts}
-use Rattle.thumb_table.specs.Images.{Defined, numbered, globals, weaks, resolved, is_standing}
+use Rattle.thumb_table.specs.Images.{Defined, numbered, resolved, is_standing}
 use Rattle.flat_link.specs.Symbols.{is_global, is_weak, is_named, is_second, is_meant}
 use Rattle.flat_link.proofs.NameFacts.{same_name_flip, same_name_self}
 use Rattle.flat_link.proofs.SymbolFacts.{defined_at}

@@ -1,16 +1,16 @@
 -- Names that are the same.
-use Rattle.std.proofs.Common.{◌≡◌, ◌≢◌, ℕ, zero, suc, ◌+◌, ◌<◌, ◌≤◌, Bool, true, false, cond, List, [], ◌∷◌, ◌++◌, length, take, drop, get_or, refl, sym, ap, ◌∙◌, subst, inl, inr, ◌⊎◌, arith, append_assoc}
-use Rattle.std.specs.Prelude.{◌==◌, nat_eq, ◌&&◌, ◌||◌, not}
-use Rattle.std.specs.Prelude.{slice_get, nat_lt, Option, Some, None}
+use Rattle.std.proofs.Common.{◌≡◌, ℕ, zero, suc, ◌+◌, ◌<◌, ◌≤◌, Bool, true, false, cond, List, [], ◌∷◌, ◌++◌, length, take, drop, get_or, refl, sym, ap, ◌∙◌, subst, inl, inr, arith, append_assoc}
+use Rattle.std.specs.Prelude.{nat_eq, ◌&&◌, ◌||◌}
+use Rattle.std.specs.Prelude.{slice_get, Option, Some, None}
 use Rattle.std.specs.List.{list_any}
 use Rattle.std.proofs.lemmas.List.Folds.{list_any_more}
 use Rattle.std.proofs.lemmas.Option.{same_Some}
 use Rattle.std.proofs.lemmas.List.{append-nil}
 use Rattle.elf_model.specs.declared.objects.Symbol.{Symbol}
 use Rattle.thumb_table.specs.declared.parts.NamedEntry.{NamedEntry}
-use Rattle.flat_link.specs.Symbols.{is_global, is_weak, is_named, is_second, is_meant, home_section, earlier, IsLowest, IsFirstSecond, entry_at, entry_list, function_place}
+use Rattle.flat_link.specs.Symbols.{is_named, is_second, is_meant, home_section, earlier, IsLowest, IsFirstSecond, entry_at, entry_list, function_place}
 use Rattle.flat_link.proofs.SectionFacts.{next}
-use Rattle.std.proofs.lemmas.Bool.{and_parts, and_from, cases_eq, cases_Bool, eq-eqb, ne_eqb, eqb-true, both_ways, cases_lt, ltb-true, lt-ltb, le-ltb}
+use Rattle.std.proofs.lemmas.Bool.{and_parts, and_from, cases_eq, eq-eqb, ne_eqb, eqb-true, both_ways, cases_lt, lt-ltb, le-ltb}
 use Rattle.elf_model.specs.Fields.{same_name}
 
 pub as_or : (b c : Bool) → cond b true c ≡ (b || c)

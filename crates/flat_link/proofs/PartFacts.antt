@@ -1,24 +1,23 @@
 -- Parts and where code sections start.
-use Rattle.std.proofs.Common.{◌≡◌, ◌≤◌, ◌<◌, ℕ, zero, suc, ◌+◌, ◌-◌, Bool, true, false, cond, List, [], ◌∷◌, ◌++◌, length, map, take, drop, get_or, refl, sym, ap, ◌∙◌, subst, inl, inr, ◌⊎◌, arith, Option, Some, None}
-use Rattle.std.specs.Prelude.{Contains, find, slice_get, max, ◌==◌, ◌&&◌, not, if◌then◌else◌, unwrap_or}
+use Rattle.std.proofs.Common.{◌≡◌, ◌≤◌, ℕ, zero, suc, ◌+◌, ◌-◌, Bool, true, false, cond, List, [], ◌∷◌, ◌++◌, map, refl, sym, ap, ◌∙◌, subst, inl, inr, arith, Option, Some, None}
+use Rattle.std.specs.Prelude.{Contains, find, slice_get, max, ◌==◌, ◌&&◌, not, unwrap_or}
 use Rattle.std.specs.List.{list_all}
 use Rattle.std.specs.Option.{option_or}
 use Rattle.std.proofs.lemmas.Bool.{and_parts, and_from, cases_Bool, eqb-true, eq-eqb, not-true, both_ways}
 use Rattle.std.proofs.lemmas.List.Folds.{find-append}
-use Rattle.std.proofs.lemmas.List.Elements.{Contains-append_left, Contains-append_right, Contains-append_cases}
+use Rattle.std.proofs.lemmas.List.Elements.{Contains-append_cases}
 use Rattle.std.proofs.lemmas.Option.{none-some, same_Some}
 use Rattle.elf_model.specs.declared.objects.Section.{Section}
 use Rattle.elf_model.specs.declared.objects.Home.{Home}
 use Rattle.elf_model.specs.declared.objects.Home.TheVariants as home
 use Rattle.elf_model.specs.Objects.{is_section, is_code, is_alloc}
 use Rattle.elf_model.specs.Canonical.{round_up}
-use Rattle.thumb_table.specs.Images.{Placed, chosen, placed, is_data, part_of, start_of, home_start, is_in_code}
+use Rattle.thumb_table.specs.Images.{Placed, part_of, start_of, home_start, is_in_code}
 use Rattle.flat_link.specs.declared.places.Sort.{Sort}
 use Rattle.flat_link.specs.declared.places.Sort.TheVariants.{Code, Data}
 use Rattle.flat_link.specs.Placing.{is_of, alignment_of, parts_from, end_after, end_of, code_starts}
 use Rattle.flat_link.specs.Symbols.{code_start, end_stops}
 use Rattle.flat_link.proofs.Elements.{contains_cases, contains_here, contains_later, contains_none, found, finds}
-use Rattle.flat_link.proofs.SectionFacts.{each_rest}
 use Rattle.flat_link.proofs.Walks.{part_at, parts_yes, parts_no, after_yes, after_no, end_grows}
 
 -- a part is of its section

@@ -1,11 +1,10 @@
 -- What the linker refuses is refused for its first cause.
-use Rattle.std.proofs.Common.{◌≡◌, ◌≤◌, ◌<◌, ℕ, zero, suc, ◌+◌, ◌-◌, Bool, true, false, List, [], ◌∷◌, ◌++◌, length, take, refl, sym, ap, ◌∙◌, subst, inl, inr, ◌⊎◌, arith, Some, filter}
+use Rattle.std.proofs.Common.{◌≡◌, ◌≤◌, ◌<◌, ℕ, ◌+◌, ◌-◌, true, false, [], ◌∷◌, length, take, refl, sym, ap, subst, inl, inr, ◌⊎◌, arith, Some}
 use Rattle.std.specs.Prelude.{Contains, slice_get, nat_le, ◌&&◌}
 use Rattle.std.specs.List.{list_all}
-use Rattle.std.proofs.lemmas.Bool.{and_parts, and_cases, leb-false, both_ways, cases_order}
-use Rattle.std.proofs.lemmas.Option.{same_Some, slice_get_within}
+use Rattle.std.proofs.lemmas.Bool.{and_parts, and_cases, leb-false}
+use Rattle.std.proofs.lemmas.Option.{slice_get_within}
 use Rattle.std.proofs.lemmas.List.Elements.{Contains-append_left}
-use Rattle.elf_model.specs.declared.objects.Section.{Section}
 use Rattle.elf_model.specs.declared.objects.Symbol.{Symbol}
 use Rattle.elf_model.specs.declared.refusals.Refusal.{Refusal}
 use Rattle.elf_model.specs.declared.refusals.Refusal.TheVariants.{Duplicate, DoesNotFit}
@@ -16,7 +15,7 @@ use Rattle.elf_model.specs.Refusals.{number_of}
 use Rattle.elf_model.specs.Objects.{ObjectParts, is_section}
 use Rattle.elf_model.specs.Canonical.{round_up}
 use Rattle.thumb_table.specs.declared.placements.Placement.{Placement}
-use Rattle.thumb_table.specs.Images.{Defined, numbered, all_symbols, globals, code_bytes_of, data_bytes_of}
+use Rattle.thumb_table.specs.Images.{numbered, all_symbols, globals, data_bytes_of}
 use Rattle.flat_link.specs.declared.places.Sort.TheVariants.{Code, Data}
 use Rattle.flat_link.specs.Placing.{end_of, can_fit}
 use Rattle.flat_link.specs.Symbols.{is_global, is_named, is_second, home_section, IsLowest, AreOnce}
@@ -26,7 +25,7 @@ use Rattle.flat_link.proofs.Elements.{filter_contains}
 use Rattle.flat_link.proofs.NameFacts.{same_name_is}
 use Rattle.flat_link.proofs.SymbolFacts.{defined_at, numbered_has}
 use Rattle.flat_link.proofs.MeantFacts.{named_there, get_take}
-use Rattle.flat_link.proofs.ImageFacts.{code_ends, data_ends, IsGlobalAt, global_at, later_second, not_twice}
+use Rattle.flat_link.proofs.ImageFacts.{code_ends, data_ends, global_at, later_second, not_twice}
 
 global_there : (o : ObjectParts) (k : ℕ) (s : Symbol) → slice_get o.symbols k ≡ Some s → is_global s ≡ true → Contains (globals (o ∷ [])) (defined_at 0 k s)
 global_there o k s e y =

@@ -1,6 +1,6 @@
 -- Facts of single sections and of rounding.
-use Rattle.std.proofs.Common.{◌≡◌, ◌≤◌, ◌<◌, ℕ, zero, suc, ◌+◌, ◌-◌, ◌*◌, ◌/◌, ◌%◌, ◌^◌, Bool, true, false, cond, List, [], ◌∷◌, ◌++◌, length, take, drop, get_or, replicate, IsTrue, refl, sym, ap, ◌∙◌, subst, inl, inr, ◌⊎◌, arith, mul_comm}
-use Rattle.std.specs.Prelude.{◌==◌, nat_le, nat_eq, ◌&&◌, ◌||◌, not, max, if◌then◌else◌}
+use Rattle.std.proofs.Common.{◌≡◌, ◌≤◌, ◌<◌, ℕ, zero, suc, ◌+◌, ◌-◌, ◌*◌, ◌/◌, ◌^◌, Bool, true, false, cond, List, [], ◌∷◌, length, drop, get_or, replicate, refl, sym, ap, ◌∙◌, subst, inl, inr, arith, mul_comm}
+use Rattle.std.specs.Prelude.{◌==◌, nat_le, ◌&&◌, not, if◌then◌else◌}
 use Rattle.std.specs.List.{list_all, list_any}
 use Rattle.std.proofs.lemmas.List.{length-replicate}
 use Rattle.std.proofs.Math.Nat.{div-mul-le_self}
@@ -14,7 +14,7 @@ use Rattle.elf_model.specs.Canonical.{round_up}
 use Rattle.thumb_table.specs.Images.{part_bytes}
 use Rattle.flat_link.specs.declared.places.Sort.{Sort}
 use Rattle.flat_link.specs.declared.places.Sort.TheVariants.{Code, Data}
-use Rattle.flat_link.specs.Placing.{is_of, alignment_of, end_after, end_of}
+use Rattle.flat_link.specs.Placing.{alignment_of}
 
 one_of : (a : ℕ) (ks : List ℕ) → list_all (λ k. nat_le 1 (2 ^ k) && nat_le (2 ^ k) 4096) ks ≡ true → list_any (λ k. a == 2 ^ k) ks ≡ true → (0 < a) × (a ≤ 4096)
 one_of a [] l h = absurd (cc)

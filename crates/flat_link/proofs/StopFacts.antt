@@ -1,5 +1,5 @@
 -- The stops that are collected are those that an image has.
-use Rattle.std.proofs.Common.{◌≡◌, ◌≤◌, ◌<◌, ℕ, zero, suc, ◌+◌, ◌-◌, ◌%◌, Bool, true, false, cond, List, [], ◌∷◌, ◌++◌, length, map, refl, sym, ap, ◌∙◌, subst, inl, inr, ◌⊎◌, arith, Option, Some, None}
+use Rattle.std.proofs.Common.{◌≡◌, ℕ, ◌+◌, ◌-◌, Bool, true, false, cond, List, [], ◌∷◌, ◌++◌, refl, sym, ap, ◌∙◌, subst, inl, inr, arith, Option, Some, None}
 use Rattle.std.specs.Prelude.{Contains, slice_get, unwrap_or, option_map, ◌==◌, ◌&&◌, ◌||◌, codes}
 use Rattle.std.specs.List.{list_all}
 use Rattle.std.proofs.lemmas.Bool.{and_parts, and_from, and_left, and_right, or_right, cases_Bool, cases_lt, eqb-true, eq-eqb, both_ways}
@@ -11,7 +11,7 @@ use Rattle.elf_model.specs.declared.objects.Home.{Home}
 use Rattle.elf_model.specs.declared.objects.Home.TheVariants as home
 use Rattle.elf_model.specs.Constants.{func}
 use Rattle.elf_model.specs.Objects.{ObjectParts, is_section, is_code}
-use Rattle.thumb_table.specs.Images.{Placed, Defined, numbered, all_symbols, is_function, is_in_code, home_start, address_of, even, is_mapping, is_mapping_of, stands_at, IsDataStart, IsStop}
+use Rattle.thumb_table.specs.Images.{Placed, Defined, numbered, all_symbols, is_function, is_in_code, address_of, even, is_mapping, is_mapping_of, stands_at, IsDataStart, IsStop}
 use Rattle.thumb_table.specs.Images.IsStop.{at_function, at_data, at_end}
 use Rattle.flat_link.specs.declared.places.Sort.TheVariants.{Code, Data}
 use Rattle.flat_link.specs.Placing.{parts_from, code_starts}
@@ -19,7 +19,7 @@ use Rattle.flat_link.specs.Symbols.{code_start, function_place, function_stops, 
 use Rattle.flat_link.specs.Made.{all_stops}
 use Rattle.flat_link.proofs.Elements.{contains_none, contains_map, map_contains}
 use Rattle.flat_link.proofs.PartFacts.{both, part_is, start_is, starts_at, code_part, in_code, not_in_code, ends_are}
-use Rattle.flat_link.proofs.SymbolFacts.{defined_at, numbered_is, numbered_has, stops_by, functions_are, data_are, stop_of, has_stop, maps_at, sound, covers}
+use Rattle.flat_link.proofs.SymbolFacts.{defined_at, numbered_is, numbered_has, functions_are, data_are, stop_of, has_stop, sound, covers}
 
 module _ (base memory : ℕ) (sections : List Section) (ok : list_all is_section sections ≡ true) where
   pub placed_function : (s : Symbol) (k a : ℕ) → function_place (code_starts base sections) s ≡ Some a

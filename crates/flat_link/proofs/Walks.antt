@@ -1,18 +1,16 @@
 -- Walks over sections: where the next one starts, and what is left.
-use Rattle.std.proofs.Common.{◌≡◌, ◌≤◌, ◌<◌, ℕ, zero, suc, ◌+◌, ◌-◌, ◌*◌, Bool, true, false, cond, List, [], ◌∷◌, ◌++◌, length, map, take, drop, get_or, replicate, refl, sym, ap, ◌∙◌, subst, inl, inr, ◌⊎◌, arith, Option, Some, None, append_assoc, length-append}
+use Rattle.std.proofs.Common.{◌≡◌, ◌≤◌, ◌<◌, ℕ, ◌+◌, ◌-◌, Bool, true, false, cond, List, [], ◌∷◌, ◌++◌, length, map, drop, get_or, replicate, refl, sym, ap, ◌∙◌, inl, inr, arith, append_assoc, length-append}
 use Rattle.std.proofs.lemmas.List.{length-replicate}
 use Rattle.thumb_table.specs.declared.parts.Part.{Part}
-use Rattle.std.specs.Prelude.{max, ◌&&◌, if◌then◌else◌}
 use Rattle.std.specs.List.{list_all}
 use Rattle.std.proofs.lemmas.Bool.{and_parts, cases_Bool}
 use Rattle.elf_model.specs.declared.objects.Section.{Section}
-use Rattle.elf_model.specs.Objects.{is_section, is_code}
+use Rattle.elf_model.specs.Objects.{is_section}
 use Rattle.elf_model.specs.Canonical.{round_up}
 use Rattle.thumb_table.specs.Images.{Placed, chosen, placed, as_part, part_bytes, bytes_from}
 use Rattle.flat_link.specs.declared.places.Sort.{Sort}
-use Rattle.flat_link.specs.declared.places.Sort.TheVariants.{Code, Data}
-use Rattle.flat_link.specs.Placing.{is_of, alignment_of, parts_from, end_after, end_of, code_starts}
-use Rattle.flat_link.proofs.SectionFacts.{aligned_as, rounded, sized, each, each_rest, next}
+use Rattle.flat_link.specs.Placing.{is_of, alignment_of, parts_from, end_after, end_of}
+use Rattle.flat_link.proofs.SectionFacts.{aligned_as, rounded, sized, each_rest, next}
 
 -- where a section ends that is placed, and that is none of the sort
 pub after_yes : (sort : Sort) (from : ℕ) (s : Section) → is_of sort s ≡ true → end_after sort from s ≡ round_up from (alignment_of sort s) + s.size

@@ -5,7 +5,7 @@ use Rattle.mark_word.specs.Words.{bare}
 use Rattle.elf_model.specs.declared.objects.Section.{Section}
 use Rattle.elf_model.specs.declared.objects.Symbol.{Symbol}
 use Rattle.thumb_table.specs.declared.placements.Placement.{Placement}
-use Rattle.thumb_table.specs.Parts.{CodeBytes, Memory, Image}
+use Rattle.thumb_table.specs.Parts.{CodeBytes, Image}
 use Rattle.thumb_table.specs.Images.{as_part, bytes_from}
 use Rattle.flat_link.specs.declared.places.Sort.TheVariants.{Code, Data}
 use Rattle.flat_link.specs.Placing.{parts_from, code_starts, can_fit}

@@ -1,7 +1,7 @@
 -- Where the linker puts the sections of an object.
-use Rattle.std.specs.Prelude.{◌≡◌, ◌≤◌, ℕ, ◌+◌, ◌-◌, nat_le, ◌&&◌, max, Bool, List, [], ◌∷◌, length, Option, Some, None, if◌then◌else◌}
+use Rattle.std.specs.Prelude.{ℕ, ◌+◌, ◌-◌, nat_le, ◌&&◌, max, Bool, List, [], ◌∷◌, Option, Some, None, if◌then◌else◌}
 use Rattle.elf_model.specs.declared.objects.Section.{Section}
-use Rattle.elf_model.specs.Objects.{ObjectParts, is_code}
+use Rattle.elf_model.specs.Objects.{is_code}
 use Rattle.elf_model.specs.Canonical.{round_up}
 use Rattle.thumb_table.specs.declared.placements.Placement.{Placement}
 use Rattle.thumb_table.specs.Images.{Placed, is_data, chosen, placed}

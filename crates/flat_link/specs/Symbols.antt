@@ -9,7 +9,7 @@ use Rattle.elf_model.specs.declared.objects.Home.TheVariants as home
 use Rattle.elf_model.specs.Constants.{global, weak, func}
 use Rattle.elf_model.specs.Fields.{same_name}
 use Rattle.elf_model.specs.Objects.{is_code}
-use Rattle.thumb_table.specs.Images.{Defined, is_defined, even, is_mapping_of, is_mapping, stands_at}
+use Rattle.thumb_table.specs.Images.{is_defined, even, is_mapping_of, is_mapping, stands_at}
 use Rattle.thumb_table.specs.declared.parts.NamedEntry.{NamedEntry}
 use Rattle.flat_link.specs.Placing.{end_after}
 use Rattle.flat_link.specs.declared.places.Sort.TheVariants.{Code}
@@ -24,6 +24,7 @@ code_start starts (home.Section j) = unwrap_or (slice_get starts j) None
 abbrev pub function_place : List (Option ℕ) → Symbol → Option ℕ
 function_place starts s = if s.kind == func then option_map (λ start. even (start + s.value)) (code_start starts s.home) else None
 
+-- the addresses of the functions of an object
 abbrev pub function_stops : List (Option ℕ) → List Symbol → List ℕ
 function_stops starts [] = []
 function_stops starts (s ∷ rest) = option_to_list (function_place starts s) ++ function_stops starts rest
@@ -34,7 +35,7 @@ last_mapping k [] j x = None
 last_mapping k (s ∷ rest) j x =
     option_or (last_mapping (k + 1) rest j x) (if is_mapping s && stands_at j x s.home 0 s.value then Some k else None)
 
--- where data starts in code, if symbol number k says so
+-- whether symbol number k is the last mapping symbol at its place
 abbrev pub is_number : ℕ → Option ℕ → Bool
 is_number k None = false
 is_number k (Some i) = i == k
@@ -44,6 +45,7 @@ is_last symbols k home.Undefined x = false
 is_last symbols k home.Absolute x = false
 is_last symbols k (home.Section j) x = is_number k (last_mapping 0 symbols j x)
 
+-- where data starts in code, if symbol number k says so
 abbrev pub data_place : List (Option ℕ) → List Symbol → ℕ → Symbol → Option ℕ
 data_place starts symbols k s =
     if is_mapping_of (codes "$d") s && is_last symbols k s.home s.value

@@ -1,4 +1,4 @@
-use Rattle.std.proofs.Common.{ℕ, List, ◌++◌, refl, ap, subst, sym}
+use Rattle.std.proofs.Common.{ℕ, List, ◌++◌, refl, subst, sym}
 use Rattle.std.specs.Prelude.{All, Option, Contains, ◌↔◌}
 use Rattle.thumb_table.specs.Parts.{CodeBytes}
 use Rattle.flat_link.specs.Made.{IsMadeCode}

@@ -1,4 +1,4 @@
-use Rattle.std.proofs.Common.{◌≡◌, ◌∙◌, ℕ, List, ap, subst, sym}
+use Rattle.std.proofs.Common.{◌≡◌, ◌∙◌, ℕ, List, subst, sym}
 use Rattle.std.specs.Prelude.{All, Option}
 use Rattle.flat_link.specs.Symbols.{IsLow}
 use Rattle.flat_link.specs.Placing.{code_starts}

@@ -1,4 +1,3 @@
-use Rattle.std.proofs.Common.{arith}
 use Rattle.flat_link.proofs.FitFacts.{low_code}
 use Rattle.flat_link.proofs.linker.parts_of.Goals as goal
 

@@ -1,4 +1,4 @@
-use Rattle.std.proofs.Common.{◌≡◌, ◌+◌, Bool, List, ℕ, ap, ◌∙◌, sym, subst, arith}
+use Rattle.std.proofs.Common.{◌≡◌, ◌+◌, Bool, ℕ, ap, ◌∙◌, sym, subst, arith}
 use Rattle.std.specs.Prelude.{◌&&◌, ◌||◌, Option, Some}
 use Rattle.elf_model.specs.Fields.{same_name}
 use Rattle.flat_link.specs.Symbols.{is_global, is_second, home_section, earlier, IsFirstSecond}

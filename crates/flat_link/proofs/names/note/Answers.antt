@@ -1,4 +1,4 @@
-use Rattle.std.proofs.Common.{◌≡◌, ℕ, List, Bool, Bor, ap, ◌∙◌}
+use Rattle.std.proofs.Common.{ℕ, List, Bool, Bor, ap, ◌∙◌}
 use Rattle.std.specs.Prelude.{◌||◌}
 use Rattle.std.specs.List.{list_any}
 use Rattle.elf_model.specs.Fields.{same_name}

@@ -1,11 +1,7 @@
-use Rattle.std.proofs.Common.{◌≡◌, ◌+◌, ◌++◌, ◌∷◌, [], drop, replicate, refl, sym, ◌∙◌, ap, arith}
+use Rattle.std.proofs.Common.{sym, ◌∙◌, arith}
 use Rattle.elf_model.specs.Objects.{is_section}
-use Rattle.elf_model.specs.Canonical.{round_up}
-use Rattle.thumb_table.specs.Images.{as_part, part_bytes}
-use Rattle.flat_link.specs.declared.places.Sort.TheVariants.{Code}
-use Rattle.flat_link.specs.Placing.{end_of, alignment_of}
 use Rattle.flat_link.proofs.SectionFacts.{each}
-use Rattle.flat_link.proofs.Walks.{within, end_grows, part_at, made_yes, made_no, bytes_yes, bytes_no, end_yes, end_no}
+use Rattle.flat_link.proofs.Walks.{within, bytes_yes, bytes_no, end_yes, end_no}
 use Rattle.flat_link.proofs.sections.bytes_of.Goals as goal
 use Rattle.flat_link.proofs.sections.bytes_of.Goals.{then-is_of+in_ok-push_zeros+in_ok-push_section, else-is_of}
 

@@ -1,11 +1,8 @@
-use Rattle.std.proofs.Common.{◌≡◌, ◌+◌, ◌++◌, ◌∷◌, [], drop, replicate, refl, sym, ◌∙◌, ap, arith}
+use Rattle.std.proofs.Common.{sym, ◌∙◌, arith}
 use Rattle.elf_model.specs.Objects.{is_section}
-use Rattle.elf_model.specs.Canonical.{round_up}
-use Rattle.thumb_table.specs.Images.{as_part, part_bytes}
 use Rattle.flat_link.specs.declared.places.Sort.TheVariants.{Code}
-use Rattle.flat_link.specs.Placing.{end_of, alignment_of}
 use Rattle.flat_link.proofs.SectionFacts.{each}
-use Rattle.flat_link.proofs.Walks.{within, end_grows, part_at, made_yes, made_no, bytes_yes, bytes_no, end_yes, end_no}
+use Rattle.flat_link.proofs.Walks.{within}
 use Rattle.flat_link.proofs.sections.code_starts.Goals as goal
 
 pub start_of-start-requires-clause-section : goal.start_of-start-requires-clause-section

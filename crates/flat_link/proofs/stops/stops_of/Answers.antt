@@ -1,4 +1,4 @@
-use Rattle.std.proofs.Common.{◌≡◌, ◌++◌, ℕ, List, ap, ◌∙◌, sym, subst}
+use Rattle.std.proofs.Common.{◌≡◌, ◌++◌, ℕ, List, ap, ◌∙◌, subst}
 use Rattle.std.specs.Prelude.{Contains, ◌↔◌}
 use Rattle.flat_link.specs.Symbols.{function_stops, data_stops, end_stops}
 use Rattle.flat_link.proofs.stops.stops_of.Goals as goal
