@@ -26,12 +26,12 @@ pub further : (skips : ℕ → Bool) (old mid new : Machine) (n : ℕ) (moved : 
     → Steps (skips mid.steps) mid new moved → Went skips old new (n + 1)
 further skips old mid new n moved went not_yet steps =
     let here : move old.code (skips (old.steps + n)) (state mid) ≡ Ok (state new) =
-      subst (λ (k : ℕ). move old.code (skips k) (state mid) ≡ Ok (state new)) went.counted
-          (subst (λ (c : CodeBytes). move c (skips mid.steps) (state mid) ≡ Ok (state new)) went.same_code steps.moves) in
+    subst (λ (k : ℕ). move old.code (skips k) (state mid) ≡ Ok (state new)) went.counted
+    (subst (λ (c : CodeBytes). move c (skips mid.steps) (state mid) ≡ Ok (state new)) went.same_code steps.moves) in
     let onward : OrdinaryStep mid.code (skips mid.steps) (state mid) → OrdinaryStep old.code (skips (old.steps + n)) (state mid) = λ o.
-      subst (λ (k : ℕ). OrdinaryStep old.code (skips k) (state mid)) went.counted (subst (λ (c : CodeBytes). OrdinaryStep c (skips mid.steps) (state mid)) went.same_code o) in
+    subst (λ (k : ℕ). OrdinaryStep old.code (skips k) (state mid)) went.counted (subst (λ (c : CodeBytes). OrdinaryStep c (skips mid.steps) (state mid)) went.same_code o) in
     let back : OrdinaryStep old.code (skips (old.steps + n)) (state mid) → OrdinaryStep mid.code (skips mid.steps) (state mid) = λ o.
-      subst (λ (c : CodeBytes). OrdinaryStep c (skips mid.steps) (state mid)) (sym went.same_code) (subst (λ (k : ℕ). OrdinaryStep old.code (skips k) (state mid)) (sym went.counted) o) in
+    subst (λ (c : CodeBytes). OrdinaryStep c (skips mid.steps) (state mid)) (sym went.same_code) (subst (λ (k : ℕ). OrdinaryStep old.code (skips k) (state mid)) (sym went.counted) o) in
     record {
       counted = omega (arith, steps.counted, went.counted);
       same_code = steps.same_code ∙ went.same_code;
@@ -39,10 +39,10 @@ further skips old mid new n moved went not_yet steps =
       not_before = λ j s some few r. split j s some r (eq-or-lt_of_le (omega arith));
       ordinary = (
         λ o. let last = steps.ordinary.0 o in
-        let before = went.ordinary.0 last.0 in
-        (before.0, rw add-one (ordinary_more old.code skips n old.steps (state old) (state mid) went.runs before.1 (onward last.1))),
+            let before = went.ordinary.0 last.0 in
+            (before.0, rw add-one (ordinary_more old.code skips n old.steps (state old) (state mid) went.runs before.1 (onward last.1))),
         λ o. let less = ordinary_less old.code skips n old.steps (state old) (state mid) went.runs (rw add-one at o.1) in
-        steps.ordinary.1 (went.ordinary.1 (o.0, less.0), back less.1)
+            steps.ordinary.1 (went.ordinary.1 (o.0, less.0), back less.1),
       );
     }
   where

@@ -38,11 +38,13 @@ ordinary_more code skips zero i s t e before last =
 ordinary_more code skips (suc n) i s t e before last =
     let first = first_step (move code (skips i) s) (run code skips n (suc i)) t e in
     let k : i + suc n ≡ suc i + n = omega arith in
-    let last' : OrdinaryStep code (skips (suc i + n)) t = rw k at last in
-    (before.0, λ next m.
-      let same : next ≡ first.0 = cc (first.1) in
-      subst (λ u. OrdinarySteps code skips (suc n) (suc i) u) (sym same)
-          (ordinary_more code skips n (suc i) first.0 t first.2 (before.1 first.0 first.1) last'))
+    let last' : OrdinaryStep code (skips (suc i + n)) t = rw k at last in (
+      before.0,
+      λ next m.
+          let same : next ≡ first.0 = cc (first.1) in
+          subst (λ u. OrdinarySteps code skips (suc n) (suc i) u) (sym same)
+          (ordinary_more code skips n (suc i) first.0 t first.2 (before.1 first.0 first.1) last'),
+    )
 
 pub ordinary_less : (code : CodeBytes) (skips : ℕ → Bool) (n i : ℕ) (s t : State) → run code skips n i s ≡ Ok t
     → OrdinarySteps code skips (suc n) i s → OrdinarySteps code skips n i s × OrdinaryStep code (skips (i + n)) t
@@ -53,8 +55,12 @@ ordinary_less code skips zero i s t e all =
 ordinary_less code skips (suc n) i s t e all =
     let first = first_step (move code (skips i) s) (run code skips n (suc i)) t e in
     let k : i + suc n ≡ suc i + n = omega arith in
-    let later = ordinary_less code skips n (suc i) first.0 t first.2 (all.1 first.0 first.1) in
-    ((all.0, λ next m.
-      let same : next ≡ first.0 = cc (first.1) in
-      subst (λ u. OrdinarySteps code skips n (suc i) u) (sym same) later.0),
-     rw k later.1)
+    let later = ordinary_less code skips n (suc i) first.0 t first.2 (all.1 first.0 first.1) in (
+      (
+        all.0,
+        λ next m.
+            let same : next ≡ first.0 = cc (first.1) in
+            subst (λ u. OrdinarySteps code skips n (suc i) u) (sym same) later.0,
+      ),
+      rw k later.1,
+    )

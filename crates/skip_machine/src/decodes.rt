@@ -35,12 +35,7 @@ fn move_of(place: ItPlace, half: u16) -> Result<Instr, BadInstr>
     ensures { result ≡ Ok (Instr.Move (record { op = MoveOp.Mov; s = is_outside place; d = half / 256 % 8; x = Operand.Imm (half % 256) })) }
 {
     let d = Reg::new((half / 256 % 8) as u8).unwrap();
-    let made = Move::new(
-        MoveOp::Mov,
-        is_outside(place),
-        d,
-        Operand::Imm(half % 256),
-    );
+    let made = Move::new(MoveOp::Mov, is_outside(place), d, Operand::Imm(half % 256));
     Ok(Instr::Move(made.unwrap()))
 }
 

@@ -20,12 +20,7 @@ fn skip(f: &Fetched, s: &mut Core)
 }
 
 /// Executes an instruction, and says whether the step was ordinary.
-fn execute(
-    f: &Fetched,
-    code: &CodeBytes,
-    s: &mut Core,
-    m: &mut Memory,
-) -> Result<bool, FaultKind>
+fn execute(f: &Fetched, code: &CodeBytes, s: &mut Core, m: &mut Memory) -> Result<bool, FaultKind>
     requires sound { IsSound code.now m.old }
     requires room { s.old.pc + (as_fetched f.now).width < 2 ^ 32 }
     ensures done { OnOk result (step_of code.now (Some (as_fetched f.now)) (state_of s.old m.old) ≡ Ok (state_of s.new m.new)) }

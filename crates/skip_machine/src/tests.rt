@@ -9,6 +9,7 @@ use thumb_table::{CodeBytes, FaultKind, Image, Memory};
 
 /// `movs r0,#5` and `bx lr`, as they are and each twice.
 const PLAIN: [u8; 4] = [0x05, 0x20, 0x70, 0x47];
+
 const TWICE: [u8; 8] = [0x05, 0x20, 0x05, 0x20, 0x70, 0x47, 0x70, 0x47];
 
 /// An image at 0x8000 with room for 64 bytes and no data.
@@ -20,13 +21,7 @@ fn image(alloc: Global, code: &[u8]) -> Result<Image, AllocError>
     let stops = vec![in alloc; 0x8000]?;
     let code = CodeBytes::new(0x8000, bytes, Vec::new(alloc), stops);
     let memory = Memory::new(0x8040, Vec::new(alloc));
-    Ok(Image::new(
-        code,
-        memory,
-        64,
-        Vec::new(alloc),
-        Vec::new(alloc),
-    ))
+    Ok(Image::new(code, memory, 64, Vec::new(alloc), Vec::new(alloc)))
 }
 
 #[test]
@@ -38,7 +33,14 @@ fn runs_under_plans(rt: HostRuntime) -> Result<(), Fail> {
         (true, "2", 10, Outcome::Returned, 4, 5),
         (false, "0", 10, Outcome::Returned, 2, 9),
         (true, "", 2, Outcome::Unfinished, 2, 5),
-        (false, "1", 10, Outcome::Fault(FaultKind::BadFetch, 0x8004), 2, 5),
+        (
+            false,
+            "1",
+            10,
+            Outcome::Fault(FaultKind::BadFetch, 0x8004),
+            2,
+            5,
+        ),
     ] {
         let code = if twice {
             TWICE.as_slice()
@@ -53,7 +55,11 @@ fn runs_under_plans(rt: HostRuntime) -> Result<(), Fail> {
         assert_eq!(rt; machine.steps(), steps, "{text} of {most}");
         assert_eq!(rt; machine.registers().r[0].bits(), r0, "{text} of {most}");
         assert!(rt; machine.is_ordinary());
-        assert_eq!(rt; machine.is_running(), outcome == Outcome::Unfinished, "{text}");
+        assert_eq!(rt;
+            machine.is_running(),
+            outcome == Outcome::Unfinished,
+            "{text}"
+        );
     }
     Ok(())
 }

@@ -21,12 +21,14 @@ pub found : (xs : List ℕ) (x : ℕ) (r : Result ℕ ℕ)
     → MatchResult r (λ i. (i < length xs) × (get_or xs i 0 ≡ x)) (λ i. (i ≤ length xs) × ((k : ℕ) → k < i → get_or xs k 0 < x) × ((k : ℕ) → i ≤ k → k < length xs → x < get_or xs k 0))
     → (IsTrue (is_ok r) → Contains xs x) × (Contains xs x → IsTrue (is_ok r))
 found xs x (Ok i) m = (λ _. (i, m.0, omega (arith, get_or_default_zero xs i x m.0, m.1)), λ _. refl)
-found xs x (Err i) m =
-    (λ t. absurd (false≢true t), λ there.
+found xs x (Err i) m = (
+  λ t. absurd (false≢true t),
+  λ there.
       let same = get_or_default_zero xs there.0 x there.1 in
       let never : there.0 < i → ⊥ = λ lt. absurd (omega (arith, m.1 there.0 lt, same, there.2)) in
       let behind : i ≤ there.0 = omega (arith, never) in
-      absurd (omega (arith, m.2 there.0 behind there.1, same, there.2)))
+      absurd (omega (arith, m.2 there.0 behind there.1, same, there.2)),
+)
 
 -- no stop is reached from a place where none is, and from which no walk goes on
 pub clear_here : (code : CodeBytes) (a : ℕ) → (Contains code.stops a → ⊥) → (IsNop code a → ⊥) → IsClear code a

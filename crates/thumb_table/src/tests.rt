@@ -13,14 +13,24 @@ fn code(alloc: Global) -> Result<CodeBytes, AllocError>
     ensures { IfOk result (λ c. IsStrictlyIncreasing (map (λ p. p.at) c.marks) × IsStrictlyIncreasing c.stops × (c.base + length c.bytes < 2 ^ 32)) }
 {
     let bytes = Vec::from_slice(alloc, &[0x00, 0xbf, 0xc0, 0x46, 0x70, 0x47])?;
-    let marks = vec![in alloc; PlaceMark { at: 0x8000, mark: Mark::Entry(0x8001) }]?;
+    let marks = vec![in alloc;
+        PlaceMark {
+            at: 0x8000,
+            mark: Mark::Entry(0x8001)
+        },
+    ]?;
     let stops = vec![in alloc; 0x8004]?;
     Ok(CodeBytes::new(0x8000, bytes, marks, stops))
 }
 
 fn image(alloc: Global) -> Result<Image, AllocError> {
     let name = Name::new(Vec::from_slice(alloc, b"f")?);
-    let entries = vec![in alloc; NamedEntry { name, address: 0x8001 }]?;
+    let entries = vec![in alloc;
+        NamedEntry {
+            name,
+            address: 0x8001
+        },
+    ]?;
     let part = Part {
         object: 0,
         code: true,
@@ -46,7 +56,10 @@ fn gives_entries_and_bytes(rt: HostRuntime) -> Result<(), Fail> {
     assert!(rt; image.code().holds(0x8000, 6) && !image.code().holds(0x7fff, 1));
     if image.code().bytes().len() <= image.room() as usize {
         let bytes = image.bytes(rt.alloc())?;
-        assert_eq!(rt; bytes.as_slice(), [0x00, 0xbf, 0xc0, 0x46, 0x70, 0x47, 0, 0, 7].as_slice());
+        assert_eq!(rt;
+            bytes.as_slice(),
+            [0x00, 0xbf, 0xc0, 0x46, 0x70, 0x47, 0, 0, 7].as_slice()
+        );
     }
     Ok(())
 }
@@ -77,12 +90,22 @@ fn moves_words(rt: HostRuntime) -> Result<(), Fail> {
         (0, Operand::Imm(5), 0, Ok(true), Word::plain(5)),
         (0, Operand::Imm(5), 0x08, Ok(true), Word::plain(0)),
         (0, Operand::Imm(5), 0x18, Ok(true), Word::plain(5)),
-        (13, Operand::Imm(5), 0, Err(FaultKind::BadStack), Word::plain(0)),
+        (
+            13,
+            Operand::Imm(5),
+            0,
+            Err(FaultKind::BadStack),
+            Word::plain(0),
+        ),
     ] {
         let d = Reg::new(d).unwrap();
         let i = Instr::Move(Move::new(MoveOp::Mov, true, d, x).unwrap());
         let mut s = registers(entry, it);
-        assert_eq!(rt; apply(&i, false, &code, &mut s, &mut memory), answer, "{it}");
+        assert_eq!(rt;
+            apply(&i, false, &code, &mut s, &mut memory),
+            answer,
+            "{it}"
+        );
         assert_eq!(rt; s.r[d.number() as usize], word, "{it}");
         assert_eq!(rt; s.it, 0);
     }
@@ -104,7 +127,11 @@ fn jumps(rt: HostRuntime) -> Result<(), Fail> {
         (Word::plain(0x8002), Err(FaultKind::BadJump), 0x8000),
     ] {
         let mut s = registers(w, 0);
-        assert_eq!(rt; apply(&i, true, &code, &mut s, &mut memory), answer, "{w:?}");
+        assert_eq!(rt;
+            apply(&i, true, &code, &mut s, &mut memory),
+            answer,
+            "{w:?}"
+        );
         assert_eq!(rt; s.pc, pc, "{w:?}");
     }
     assert_eq!(rt; it_after(0x0c), 0x18);

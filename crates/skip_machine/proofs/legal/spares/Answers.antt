@@ -14,7 +14,7 @@ returns-then-numbers-k c =
     let place : q + c.args.more ≡ c.loop-k.k = omega arith in
     let within : q + c.args.more < length numbers = omega arith in
     let far : get_or numbers (q + c.args.more) 0 ≡ get_or numbers q 0 + c.args.more =
-      omega (arith, ap (λ i. get_or numbers i 0) place, c.if-numbers-k.true, rises numbers c.requires q c.loop-k.k (omega arith) (omega arith)) in
+    omega (arith, ap (λ i. get_or numbers i 0) place, c.if-numbers-k.true, rises numbers c.requires q c.loop-k.k (omega arith) (omega arith)) in
     (λ t. absurd (false≢true t), λ free. absurd (crowd numbers c.requires q c.args.more within far free))
 
 pub returns : goal.returns

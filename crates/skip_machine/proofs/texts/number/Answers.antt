@@ -18,9 +18,9 @@ returns c = λ m lt e.
     let read : c.parse.result ≡ Ok m = parse-decimal 64 m c.args.text.now c.parse.result (omega arith) (omega arith) e c.parse.ensures.value.0 in
     let same : c.in-Ok.n ≡ m = cc (read, c.in-Ok.is) in
     elim c.else-n-lt9223372036854775808.branch [
-    else-n-lt9223372036854775808-via-then-n-lt9223372036854775808+else-eq w ↦
-      let written : w.as_str.result.now ≡ c.args.text.now = w.as_str.ensures.value ∙ c.in_ok-written-in-Ok.ensures.ok ∙ ap decimal same ∙ sym e in
-      let equal : pointwise nat_eq w.as_str.result.now c.args.text.now ≡ true = rw written (nat_list_eq_equiv.refl c.args.text.now) in
-      absurd (false≢true (w.if-eq.ensures ∙ equal))
-    | else-n-lt9223372036854775808-via-else-n-lt9223372036854775808 w ↦ absurd (omega arith)
+      | else-n-lt9223372036854775808-via-then-n-lt9223372036854775808+else-eq w ↦
+          let written : w.as_str.result.now ≡ c.args.text.now = w.as_str.ensures.value ∙ c.in_ok-written-in-Ok.ensures.ok ∙ ap decimal same ∙ sym e in
+          let equal : pointwise nat_eq w.as_str.result.now c.args.text.now ≡ true = rw written (nat_list_eq_equiv.refl c.args.text.now) in
+          absurd (false≢true (w.if-eq.ensures ∙ equal))
+      | else-n-lt9223372036854775808-via-else-n-lt9223372036854775808 w ↦ absurd (omega arith)
     ]
