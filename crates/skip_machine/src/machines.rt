@@ -200,7 +200,6 @@ impl Machine {
         ensures { Ran (is_in plan.now) steps self.old self.new result }
     {
         for i in 0..steps {
-            let _ = i;
             let skipped = plan.holds(self.steps());
             let pc = self.registers().pc;
             match self.step(skipped) {
