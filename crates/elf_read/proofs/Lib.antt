@@ -23,3 +23,10 @@ pub mod SoundOrder
 pub mod SoundObject
 pub mod AllFaults
 pub mod ShortNames
+pub mod WrittenSums
+pub mod WrittenLists
+pub mod WrittenSections
+pub mod WrittenLimits
+pub mod WrittenSymbols
+pub mod WrittenRelocs
+pub mod WrittenFile
