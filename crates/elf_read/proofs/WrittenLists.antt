@@ -61,28 +61,25 @@ pub record IsRelocated (o : ObjectParts) (i : ℕ) (p : ℕ × Section) : Type 0
 
 pub relocated_at : (o : ObjectParts) (i : ℕ) (ss : List Section) (k : ℕ) (p : ℕ × Section) → slice_get (relocated o i ss) k ≡ Some p → IsRelocated o i p
 relocated_at o i [] k p e = absurd (none-some p e)
-relocated_at o i (s ∷ ss) k p e = go (length (relocs_in o i) == 0) refl k e
+relocated_at o i (s ∷ ss) k p e = go (λ j f. further (relocated_at o (i + 1) ss j p f)) (length (relocs_in o i) == 0) refl k e
   where
-    later : (k : ℕ) → slice_get (relocated o (i + 1) ss) k ≡ Some p → IsRelocated o i p
-    later k e = let r = relocated_at o (i + 1) ss k p e in let a = r.above in record { above = omega (arith, a); some = r.some }
+    further : IsRelocated o (i + 1) p → IsRelocated o i p
+    further r = let a = r.above in record { above = omega (arith, a); some = r.some }
 
-    go : (t : Bool) → (length (relocs_in o i) == 0) ≡ t → (k : ℕ) → slice_get (if t then relocated o (i + 1) ss else (i, s) ∷ relocated o (i + 1) ss) k ≡ Some p → IsRelocated o i p
-    go true n k e = later k e
-    go false n zero e = subst (λ (q : ℕ × Section). IsRelocated o i q) (same_Some (i, s) p e) (record { above = omega arith; some = λ z. both_ways _ n (eq-eqb (length (relocs_in o i)) 0 z) })
-    go false n (suc k) e = later k e
+    go : ((j : ℕ) → slice_get (relocated o (i + 1) ss) j ≡ Some p → IsRelocated o i p) → (t : Bool) → (length (relocs_in o i) == 0) ≡ t → (k : ℕ) → slice_get (if t then relocated o (i + 1) ss else (i, s) ∷ relocated o (i + 1) ss) k ≡ Some p → IsRelocated o i p
+    go later true n k e = later k e
+    go later false n zero e = subst (λ (q : ℕ × Section). IsRelocated o i q) (same_Some (i, s) p e) (record { above = omega arith; some = λ z. both_ways _ n (eq-eqb (length (relocs_in o i)) 0 z) })
+    go later false n (suc k) e = later k e
 
 pub relocated_rise : (o : ObjectParts) (i : ℕ) (ss : List Section) (j k : ℕ) (p q : ℕ × Section) → slice_get (relocated o i ss) j ≡ Some p → slice_get (relocated o i ss) k ≡ Some q → j < k → p.0 < q.0
 relocated_rise o i [] j k p q e f l = absurd (none-some p e)
-relocated_rise o i (s ∷ ss) j k p q e f l = go (length (relocs_in o i) == 0) j k e f l
+relocated_rise o i (s ∷ ss) j k p q e f l = go (λ a c x y m. relocated_rise o (i + 1) ss a c p q x y m) (length (relocs_in o i) == 0) j k e f l
   where
-    later : (j k : ℕ) → slice_get (relocated o (i + 1) ss) j ≡ Some p → slice_get (relocated o (i + 1) ss) k ≡ Some q → j < k → p.0 < q.0
-    later j k e f l = relocated_rise o (i + 1) ss j k p q e f l
-
-    go : (t : Bool) (j k : ℕ) → slice_get (if t then relocated o (i + 1) ss else (i, s) ∷ relocated o (i + 1) ss) j ≡ Some p → slice_get (if t then relocated o (i + 1) ss else (i, s) ∷ relocated o (i + 1) ss) k ≡ Some q → j < k → p.0 < q.0
-    go true j k e f l = later j k e f l
-    go false j zero e f l = absurd (omega arith)
-    go false zero (suc k) e f l =
+    go : ((j k : ℕ) → slice_get (relocated o (i + 1) ss) j ≡ Some p → slice_get (relocated o (i + 1) ss) k ≡ Some q → j < k → p.0 < q.0) → (t : Bool) (j k : ℕ) → slice_get (if t then relocated o (i + 1) ss else (i, s) ∷ relocated o (i + 1) ss) j ≡ Some p → slice_get (if t then relocated o (i + 1) ss else (i, s) ∷ relocated o (i + 1) ss) k ≡ Some q → j < k → p.0 < q.0
+    go later true j k e f l = later j k e f l
+    go later false j zero e f l = absurd (omega arith)
+    go later false zero (suc k) e f l =
         let first = ap (λ (r : ℕ × Section). r.0) (same_Some (i, s) p e) in
         let a = (relocated_at o (i + 1) ss k q f).above in
         omega (arith, first, a)
-    go false (suc j) (suc k) e f l = later j k e f (omega arith)
+    go later false (suc j) (suc k) e f l = later j k e f (omega arith)
