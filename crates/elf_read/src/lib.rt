@@ -11,6 +11,7 @@ mod format;
 mod headers;
 mod keeping;
 mod kinds;
+mod laws;
 mod limits;
 mod malformed;
 mod names;
@@ -27,6 +28,7 @@ mod whole;
 
 use elf_model::{Deny, Limit, Object};
 use keeping::{kept_flags, symbol_flags};
+pub use laws::written_files_are_faultless;
 use malformed::first_malformed;
 use std::alloc::Global;
 use unfit::first_unfit;
