@@ -1,23 +1,21 @@
 -- A written file has no more of anything than its object.
-use Rattle.std.proofs.Common.{◌≡◌, ◌≢◌, ◌≤◌, ◌<◌, ℕ, ◌+◌, ◌-◌, ◌*◌, ◌/◌, Bool, true, false, ◌&&◌, List, [], ◌∷◌, ◌++◌, length, get_or, Some, refl, sym, ap, ◌∙◌, subst, arith, map, filter}
-use Rattle.std.specs.Prelude.{slice_get, All, ◌==◌, if◌then◌else◌, codes}
+use Rattle.std.proofs.Common.{◌≡◌, ◌≤◌, ◌<◌, ℕ, ◌+◌, ◌-◌, ◌/◌, Bool, true, ◌&&◌, List, ◌++◌, length, get_or, refl, sym, ap, ◌∙◌, arith, map}
+use Rattle.std.specs.Prelude.{◌==◌, if◌then◌else◌}
 use Rattle.std.specs.List.{sum_by, flat_map}
-use Rattle.std.proofs.lemmas.List.{length-append}
 use Rattle.std.proofs.lemmas.List.Sums.{sum_by-append}
 use Rattle.std.proofs.lemmas.Bool.{and_parts, eq-eqb, ne_eqb, eqb-true}
 use Rattle.elf_model.specs.declared.objects.Section.{Section}
-use Rattle.elf_model.specs.declared.objects.Reloc.{Reloc}
 use Rattle.elf_model.specs.Constants.{progbits, rel, symtab}
-use Rattle.elf_model.specs.Objects.{ObjectParts, is_alloc, is_exec, is_code, code_size}
-use Rattle.elf_model.specs.Files.{header, header_count, from, is_kept, IsKind}
-use Rattle.elf_model.specs.Canonical.{FileSection, file_sections, own_section, reloc_section, relocated, relocs_in, symtab_section, symtab_header}
+use Rattle.elf_model.specs.Objects.{ObjectParts, is_alloc, is_exec, code_size}
+use Rattle.elf_model.specs.Files.{header, header_count, is_kept, IsKind}
+use Rattle.elf_model.specs.Canonical.{FileSection, file_sections, own_section, reloc_section, relocated, relocs_in}
 use Rattle.elf_model.proofs.Sections.{not_rel}
 use Rattle.elf_model.proofs.Sorted.{relocs_from, all_from_first}
 use Rattle.elf_model.proofs.Relocs.{reloc_facts}
 use Rattle.elf_model.proofs.Written.{ObjectFacts, tables_of}
 use Rattle.elf_model.proofs.Headers.{Reading, head, header_total}
 use Rattle.elf_model.proofs.Symbols.{symtab_number, symtab_fields}
-use Rattle.elf_read.specs.Faults.{IsHeader, relocs_up_to, code_up_to, is_code_header}
+use Rattle.elf_read.specs.Faults.{relocs_up_to, code_up_to, is_code_header}
 use Rattle.elf_read.proofs.WrittenSums.{sum_filter-le, sum-none, sum_of_map, sum_lengths}
 
 -- what a section adds to the relocations and to the code

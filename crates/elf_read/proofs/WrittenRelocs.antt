@@ -1,18 +1,16 @@
 -- The relocations of a written file are sound.
-use Rattle.std.proofs.Common.{◌≡◌, ◌≢◌, ◌≤◌, ◌<◌, ◌⊎◌, ℕ, ◌+◌, ◌-◌, ◌*◌, ◌/◌, ◌%◌, Bool, true, false, not, ◌&&◌, ◌||◌, List, length, Option, Some, None, inl, inr, refl, sym, ap, ◌∙◌, subst, arith}
-use Rattle.std.specs.Prelude.{slice_get, ◌==◌, if◌then◌else◌, nat_le}
+use Rattle.std.proofs.Common.{◌≡◌, ◌≢◌, ◌≤◌, ◌<◌, ◌⊎◌, ℕ, ◌+◌, ◌-◌, ◌*◌, ◌/◌, ◌%◌, true, not, List, length, Option, Some, None, inl, inr, refl, sym, ap, ◌∙◌, subst, arith}
+use Rattle.std.specs.Prelude.{slice_get, ◌==◌, nat_le}
 use Rattle.std.proofs.Math.Nat.{mod-eq_of_lt, mul-add-mod_self_right}
 use Rattle.std.proofs.lemmas.Nat.{div-mul-add}
 use Rattle.std.proofs.lemmas.Bool.{and_parts, cases_lt, eq-eqb, both_ways, not-true, false≢true, leb-true}
 use Rattle.elf_model.specs.declared.objects.Section.{Section}
-use Rattle.elf_model.specs.declared.objects.Symbol.{Symbol}
 use Rattle.elf_model.specs.declared.objects.Reloc.{Reloc}
 use Rattle.elf_model.specs.Constants.{nobits, rel}
-use Rattle.elf_model.specs.Fields.{half_at, word_at}
+use Rattle.elf_model.specs.Fields.{word_at}
 use Rattle.elf_model.specs.Objects.{ObjectParts, is_placed, place_width, reloc_code}
-use Rattle.elf_model.specs.Files.{header, header_count, is_kept, IsKind, symbol_of}
-use Rattle.elf_model.specs.Canonical.{FileSection, file_sections, own_section, relocated, relocs_in, symtab_header}
-use Rattle.elf_model.specs.Fits.{RelocFits}
+use Rattle.elf_model.specs.Files.{header, IsKind}
+use Rattle.elf_model.specs.Canonical.{own_section, relocated, relocs_in, symtab_header}
 use Rattle.elf_model.proofs.Lists.{there}
 use Rattle.elf_model.proofs.Sections.{not_rel}
 use Rattle.elf_model.proofs.Written.{tables_of, table_at, own_at, count_sections}
@@ -21,9 +19,15 @@ use Rattle.elf_model.proofs.Kept.{own_facts}
 use Rattle.elf_model.proofs.Symbols.{symtab_fields}
 use Rattle.elf_model.proofs.Tables.{symtab_kind}
 use Rattle.elf_model.proofs.Relocs.{RelocFacts, reloc_fields, table_none, row_words, facts_of}
-use Rattle.elf_read.specs.Faults.{IsSymbolAt, IsRelocAt, IsKeptSymbol, names_no_section, reloc_width}
+use Rattle.elf_read.specs.Faults.{IsSymbolAt, IsRelocAt, IsKeptSymbol, reloc_width}
 use Rattle.elf_read.proofs.WrittenLists.{relocated_at, relocated_rise, offsets_rise}
-use Rattle.elf_read.proofs.WrittenSymbols.{IsHoused, at_home}
+use Rattle.elf_read.proofs.WrittenSymbols.{at_home}
+
+low_byte : (w s c : ℕ) → w ≡ s * 256 + c → c < 256 → w % 256 ≡ c
+low_byte w s c e l = ap (λ (n : ℕ). n % 256) e ∙ mul-add-mod_self_right s 256 c ∙ mod-eq_of_lt l
+
+high_bytes : (w s c : ℕ) → w ≡ s * 256 + c → c < 256 → w / 256 ≡ s
+high_bytes w s c e l = ap (λ (n : ℕ). n / 256) e ∙ div-mul-add s 256 c l
 
 module _ (o : ObjectParts) (b : List ℕ) (r : Reading o b) where
   -- a header of relocations is of a section that has some
@@ -75,15 +79,15 @@ module _ (o : ObjectParts) (b : List ℕ) (r : Reading o b) where
       let facts = facts_of o b r t.p j at.0 at.1 in
       let words = row_words o b r t.n h j t.p at.0 t.number t.at at.1 facts.1 facts.0 in
       let small = facts.1.code in
-      let second : word_at b (e + 4) ≡ (at.0.symbol + 1) * 256 + reloc_code at.0.kind = ap (λ (p : ℕ). word_at b (p + 4)) i.place ∙ words.1 in
+      let second : word_at b (e + 4) ≡ (at.0.symbol + 1) * 256 + reloc_code at.0.kind = subst (λ (p : ℕ). word_at b (p + 4) ≡ (at.0.symbol + 1) * 256 + reloc_code at.0.kind) (sym i.place) words.1 in
       record {
         x = at.0;
         at = at.1;
         facts = facts.0;
         section = facts.2;
-        offset = ap (word_at b) i.place ∙ words.0;
-        code = ap (λ (w : ℕ). w % 256) second ∙ mul-add-mod_self_right (at.0.symbol + 1) 256 (reloc_code at.0.kind) ∙ mod-eq_of_lt small;
-        symbol = ap (λ (w : ℕ). w / 256) second ∙ div-mul-add (at.0.symbol + 1) 256 (reloc_code at.0.kind) small;
+        offset = subst (λ (p : ℕ). word_at b p ≡ at.0.offset) (sym i.place) words.0;
+        code = low_byte (word_at b (e + 4)) (at.0.symbol + 1) (reloc_code at.0.kind) second small;
+        symbol = high_bytes (word_at b (e + 4)) (at.0.symbol + 1) (reloc_code at.0.kind) second small;
       }
 
   -- where a relocation's place lies

@@ -1,23 +1,23 @@
 -- The sections of a written file are sound, and none is dropped.
-use Rattle.std.proofs.Common.{◌≡◌, ◌≢◌, ◌≤◌, ◌<◌, ℕ, ◌+◌, ◌-◌, Bool, true, false, cond, not, ◌&&◌, ◌||◌, List, [], length, get_or, Some, inl, inr, refl, sym, ap, ◌∙◌, subst, arith, filter}
-use Rattle.std.specs.Prelude.{slice_get, All, ◌==◌, if◌then◌else◌, codes}
-use Rattle.std.proofs.lemmas.Bool.{and_parts, and_left, and_right, cases_lt, eq-eqb, ne_eqb, eqb-true, both_ways, not-true, not_from_true, false≢true}
-use Rattle.std.proofs.lemmas.Option.{same_Some}
+use Rattle.std.proofs.Common.{◌≡◌, ◌≢◌, ◌≤◌, ◌<◌, ℕ, ◌+◌, ◌-◌, Bool, true, false, cond, not, ◌&&◌, ◌||◌, List, [], ◌∷◌, length, get_or, Some, inl, inr, refl, sym, ap, ◌∙◌, subst, arith}
+use Rattle.std.specs.Prelude.{slice_get, All, ◌==◌, if◌then◌else◌}
+use Rattle.std.specs.List.{list_any}
+use Rattle.std.proofs.lemmas.Bool.{and_parts, and_left, and_right, cases_lt, eq-eqb, ne_eqb, both_ways, not-true, not_from_true, false≢true}
 use lib.Pointwise.{bytes_decides}
 use Rattle.elf_model.specs.declared.objects.Section.{Section}
 use Rattle.elf_model.specs.declared.refusals.Limit.{Limit}
-use Rattle.elf_model.specs.Constants.{nobits, rel, rela, group, symtab_shndx}
+use Rattle.elf_model.specs.Constants.{progbits, note, arm_attributes, nobits, rel, rela, group, symtab_shndx}
 use Rattle.elf_model.specs.Fields.{same_name}
 use Rattle.elf_model.specs.Maps.{map_name}
 use Rattle.elf_model.specs.Objects.{ObjectParts, is_section, is_name, is_dropped_name, is_alignment, is_kept_kind, is_alloc, is_writable, is_exec}
-use Rattle.elf_model.specs.Files.{header, header_count, headers, from, section_name, is_table, is_refused_kind, is_dropped, is_kept}
-use Rattle.elf_model.specs.Canonical.{FileSection, file_sections, own_section, reloc_section, relocated, section_names}
+use Rattle.elf_model.specs.Files.{header, header_count, section_name, is_table, is_refused_kind, is_dropped}
+use Rattle.elf_model.specs.Canonical.{FileSection, file_sections, own_section, section_names}
 use Rattle.elf_model.proofs.FieldsRead.{IsHeader as Fields}
 use Rattle.elf_model.proofs.Laid.{place_of}
 use Rattle.elf_model.proofs.Lists.{All_at, there, filter_dropped}
 use Rattle.elf_model.proofs.Sections.{name_facts}
 use Rattle.elf_model.proofs.Strings.{has_no_nul}
-use Rattle.elf_model.proofs.Written.{ObjectFacts, each_named, count_sections}
+use Rattle.elf_model.proofs.Written.{ObjectFacts, each_named}
 use Rattle.elf_model.proofs.Headers.{Reading, head, header_total, name_found, table_behind}
 use Rattle.elf_model.proofs.Kept.{own_kept}
 use Rattle.elf_read.specs.Faults.{IsHeader, is_input_limit, is_memory_kind, is_map, dropped_count}
@@ -45,10 +45,7 @@ kept_handled kind flags h =
     ∙ ap (λ (t : Bool). t || (kind == symtab_shndx)) (ne_eqb kind rela not_rela) ∙ ne_eqb kind symtab_shndx not_indexes
 
 kept_memory : (kind flags : ℕ) → is_kept_kind kind flags ≡ true → is_alloc flags ≡ true → is_memory_kind kind ≡ true
-kept_memory kind flags h m = sym (ap (λ (t : Bool). if t then is_memory_kind kind else is_kept_kind kind 0) m) ∙ sym (alike (is_alloc flags) m) ∙ h
-  where
-    alike : (t : Bool) → is_alloc flags ≡ true → is_kept_kind kind flags ≡ (if is_alloc flags then is_memory_kind kind else is_kept_kind kind 0)
-    alike t m = refl
+kept_memory kind flags h m = ap (λ (t : Bool). if t then is_memory_kind kind else list_any (λ k. kind == k) (progbits ∷ note ∷ arm_attributes ∷ [])) (sym m) ∙ h
 
 own_sound : (l : Limit) (s : Section) → is_section s ≡ true → (is_input_limit l ≡ true → s.name ≢ map_name) → IsSound l (own_section s)
 own_sound l s h n =

@@ -1,16 +1,16 @@
 -- The symbols of a written file are sound.
-use Rattle.std.proofs.Common.{◌≡◌, ◌≢◌, ◌≤◌, ◌<◌, ◌⊎◌, ℕ, ◌+◌, ◌-◌, ◌*◌, ◌/◌, ◌%◌, Bool, true, false, ◌||◌, List, length, Option, Some, None, inl, inr, refl, sym, ap, ◌∙◌, subst, arith}
-use Rattle.std.specs.Prelude.{slice_get, ◌==◌, if◌then◌else◌, nat_le}
-use Rattle.std.proofs.lemmas.Bool.{cases_lt, ne_eqb, both_ways, false≢true, leb-true}
+use Rattle.std.proofs.Common.{◌≡◌, ◌≤◌, ◌<◌, ◌⊎◌, ℕ, ◌+◌, ◌-◌, ◌*◌, ◌/◌, ◌%◌, true, false, List, Option, Some, None, inl, inr, refl, sym, ap, ◌∙◌, subst, arith}
+use Rattle.std.specs.Prelude.{slice_get}
+use Rattle.std.proofs.lemmas.Bool.{both_ways, false≢true, leb-true}
 use Rattle.elf_model.specs.declared.objects.Section.{Section}
 use Rattle.elf_model.specs.declared.objects.Symbol.{Symbol}
 use Rattle.elf_model.specs.declared.objects.Home.{Home}
 use Rattle.elf_model.specs.declared.objects.Home.TheVariants as home
-use Rattle.elf_model.specs.Constants.{symtab, local, func}
+use Rattle.elf_model.specs.Constants.{local}
 use Rattle.elf_model.specs.Fields.{byte_at, half_at, word_at}
-use Rattle.elf_model.specs.Objects.{ObjectParts, has_home, is_at_home, is_inside}
+use Rattle.elf_model.specs.Objects.{ObjectParts, has_home, is_at_home}
 use Rattle.elf_model.specs.Files.{header, header_count, is_kept, symbol_of}
-use Rattle.elf_model.specs.Canonical.{file_sections, own_section, symtab_header, home_index}
+use Rattle.elf_model.specs.Canonical.{own_section, symtab_header, home_index}
 use Rattle.elf_model.proofs.Lists.{there}
 use Rattle.elf_model.proofs.Written.{own_at, count_sections}
 use Rattle.elf_model.proofs.Headers.{Reading, head, header_total}
