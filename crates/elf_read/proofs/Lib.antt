@@ -23,3 +23,7 @@ pub mod SoundOrder
 pub mod SoundObject
 pub mod AllFaults
 pub mod ShortNames
+pub mod MapRows
+pub mod FoundMaps
+pub mod RowBytes
+pub mod EachRow

@@ -8,3 +8,4 @@ pub mod RelocFaults
 pub mod Texts
 pub mod SymbolFaults
 pub mod FirstFaults
+pub mod MapRows
