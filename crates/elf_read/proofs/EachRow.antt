@@ -1,5 +1,5 @@
 -- What holds of each element of a list, taken apart.
-use Rattle.std.proofs.Common.{◌<◌, ℕ, zero, suc, List, [], ◌∷◌, arith}
+use Rattle.std.proofs.Common.{zero, suc, List, ◌∷◌, arith}
 use Rattle.std.specs.Prelude.{All}
 
 pub all_cons : {X : Type 0} (P : X → Type 0) (x : X) (xs : List X) → P x → All P xs → All P (x ∷ xs)

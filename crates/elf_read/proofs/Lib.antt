@@ -27,3 +27,4 @@ pub mod MapRows
 pub mod FoundMaps
 pub mod RowBytes
 pub mod EachRow
+pub mod MapFaults

@@ -1,8 +1,7 @@
-use Rattle.std.proofs.Common.{◌≡◌, ◌+◌, ℕ, Some, refl, sym, ap, ◌∙◌, drop, ◌++◌, arith}
-use Rattle.elf_model.specs.Fields.{word_at, word}
-use Rattle.elf_model.specs.Maps.{row_kind}
+use Rattle.std.proofs.Common.{◌+◌, sym, ap, ◌∙◌, arith}
+use Rattle.elf_model.specs.Fields.{word_at}
 use Rattle.elf_read.specs.MapRows.{kind_of}
-use Rattle.elf_read.proofs.RowBytes.{no_row, row_there, row_read, kind_back}
+use Rattle.elf_read.proofs.RowBytes.{no_row, row_read, kind_back}
 use Rattle.elf_read.proofs.maps.row_at.Goals as goal
 
 pub returns-in_default : goal.returns-in_default
