@@ -3,9 +3,7 @@ use Rattle.std.proofs.Common.{◌≡◌, ◌≤◌, ◌⊎◌, ℕ, ◌+◌, Boo
 use Rattle.std.proofs.lemmas.Bool.{and_parts, and_from, or_cases, or_left, or_right, eqb-true, eq-eqb, not-true, not_from_false}
 use Rattle.elf_model.specs.declared.refusals.Limit.{Limit}
 use Rattle.elf_model.specs.declared.refusals.Refusal.TheVariants.{SectionKind}
-use Rattle.elf_model.specs.Fields.{same_name}
-use Rattle.elf_model.specs.Files.{header, header_count, header_place, section_name, is_table, is_dropped}
-use Rattle.elf_model.specs.Maps.{map_name}
+use Rattle.elf_model.specs.Files.{header, header_count, header_place, is_table, is_dropped}
 use Rattle.elf_read.specs.declared.places.Place.{Place}
 use Rattle.elf_read.specs.Faults.{Fault, IsHeader, is_input_limit, is_map}
 use Rattle.elf_read.specs.Faults.Fault.{refused_kind, memory_kind, writable_code, empty_code, own_map}

@@ -30,3 +30,8 @@ pub mod WrittenLimits
 pub mod WrittenSymbols
 pub mod WrittenRelocs
 pub mod WrittenFile
+pub mod MapRows
+pub mod FoundMaps
+pub mod RowBytes
+pub mod EachRow
+pub mod MapFaults

@@ -9,3 +9,4 @@ pub mod Texts
 pub mod SymbolFaults
 pub mod FirstFaults
 pub mod Written
+pub mod MapRows
