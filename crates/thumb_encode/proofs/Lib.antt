@@ -1,0 +1,10 @@
+pub mod Covering
+pub mod Fields
+pub mod FullFields
+pub mod HalfCovering
+pub mod Rising
+pub mod Standing
+pub mod DataCovering
+pub mod FullMeanings
+pub mod FullCovering
+pub mod Examples

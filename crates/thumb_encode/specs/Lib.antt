@@ -1,0 +1,3 @@
+pub mod Encoding
+pub mod HalfCodes
+pub mod FullCodes
