@@ -1,0 +1,3 @@
+mod Examples
+pub mod Decimals
+pub mod NamesOf

@@ -1,0 +1,18 @@
+//! The listing: one line of text for an instruction at its address.
+#![tactic(auto)]
+
+mod accesses;
+mod branches;
+mod data;
+mod line;
+mod listing;
+mod lists;
+mod names;
+mod operands;
+mod pieces;
+mod products;
+#[cfg(test)]
+mod tests;
+
+pub use line::Line;
+pub use listing::list_line;
