@@ -1,2 +1,14 @@
 pub mod StopLemmas
-pub mod EffectLemmas
+pub mod MarkLemmas
+pub mod BranchLemmas
+pub mod WriteLemmas
+pub mod AccessLemmas
+pub mod LiteralLemmas
+pub mod ListLemmas
+pub mod MemoryLemmas
+pub mod PairLemmas
+pub mod MultiLemmas
+pub mod OrdinaryLemmas
+pub mod ResultLemmas
+pub mod NumberLemmas
+mod Examples

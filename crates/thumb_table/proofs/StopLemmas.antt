@@ -1,11 +1,13 @@
 -- Stops, and the walk over instructions that do nothing.
-use Rattle.std.proofs.Common.{◌≡◌, ℕ, zero, suc, ◌+◌, ◌-◌, ◌*◌, ◌<◌, ◌≤◌, ◌↔◌, Bool, true, false, List, length, get_or, Result, Ok, Err, MatchResult, IsTrue, arith, add-zero, ap, refl}
+use Rattle.std.proofs.Common.{◌≡◌, ℕ, zero, suc, ◌+◌, ◌-◌, ◌*◌, ◌<◌, ◌≤◌, ◌↔◌, Bool, true, false, List, length, get_or, Result, Ok, Err, MatchResult, IsTrue, ◌%◌, inl, inr, arith, add-zero, ap, refl}
 use Rattle.std.specs.Prelude.{is_ok, Contains}
 use Rattle.std.specs.List.Sorted.{IsStrictlyIncreasing}
 use Rattle.std.proofs.lemmas.Grind.{get_or_default_zero}
 use Rattle.std.proofs.lemmas.Bool.{false≢true}
 use Rattle.thumb_table.specs.Parts.{CodeBytes}
-use Rattle.thumb_table.specs.Steps.{IsNop, IsClear}
+use Rattle.thumb_table.specs.Ordinary.{IsNop, IsClear, OrdinaryReturn}
+use Rattle.mark_word.specs.Words.{Word}
+use Rattle.mark_word.specs.declared.marks.Mark.TheVariants.{Return}
 
 -- numbers that rise strictly rise over any distance
 pub rises_by : (xs : List ℕ) → IsStrictlyIncreasing xs → (i d : ℕ) → i + d < length xs → get_or xs i 0 ≤ get_or xs (i + d) 0
@@ -52,3 +54,11 @@ clear_before code a nop clear k walk there =
     nops : (j : ℕ) → j < suc k → IsNop code (a + 2 * j)
     nops zero lt = rw add-zero nop
     nops (suc j) lt = let f : a + 2 * suc j ≡ a + 2 + 2 * j = omega arith in rw f (walk j (omega arith))
+
+-- a return that goes to where a walk starts
+pub ordinary_return : (code : CodeBytes) (w : Word) (a : ℕ) (clear : Bool) → w.mark ≡ Return a → (w.bits ≡ 0x7FFFFFFF → ⊥) → (IsTrue clear → IsClear code (w.bits - w.bits % 2)) × (IsClear code (w.bits - w.bits % 2) → IsTrue clear)
+    → (IsTrue clear → OrdinaryReturn code w) × (OrdinaryReturn code w → IsTrue clear)
+ordinary_return code w a clear mark other walk = (
+  λ t. ((a, mark), inr (walk.0 t)),
+  λ o. elim o.1 [ inl e ↦ absurd (other e) | inr c ↦ walk.1 c ],
+)

@@ -1,23 +1,23 @@
 -- The image of objects that are placed in memory: code from a base on, then data.
-use Rattle.std.specs.Prelude.{◌≡◌, ◌≢◌, ◌<◌, ◌≤◌, ◌⊎◌, ◌↔◌, ℕ, zero, suc, ◌+◌, ◌-◌, ◌*◌, ◌%◌, ◌^◌, ◌==◌, ◌&&◌, ◌||◌, nat_lt, not, max, Bool, true, false, List, [], ◌∷◌, ◌++◌, length, map, replicate, filter, find, Option, Some, None, if◌then◌else◌, codes, All, Contains, slice_get, IsTrue}
-use Rattle.std.specs.Prelude.{nat_eq}
-use Rattle.std.specs.List.{starts_with}
+use Rattle.std.specs.Prelude.{◌≡◌, ◌<◌, ◌≤◌, ◌↔◌, ℕ, zero, suc, ◌+◌, ◌-◌, ◌%◌, ◌^◌, ◌==◌, ◌&&◌, not, max, Bool, true, false, List, [], ◌∷◌, ◌++◌, length, map, replicate, filter, find, Option, Some, None, if◌then◌else◌, All, Contains, slice_get}
 use Rattle.std.specs.List.Sorted.{IsStrictlyIncreasing}
 use Rattle.elf_model.specs.declared.objects.Section.{Section}
 use Rattle.elf_model.specs.declared.objects.Symbol.{Symbol}
 use Rattle.elf_model.specs.declared.objects.Home.{Home}
 use Rattle.elf_model.specs.declared.objects.Home.TheVariants as home
-use Rattle.elf_model.specs.Constants.{nobits, local, global, weak, notype, func}
+use Rattle.elf_model.specs.Constants.{nobits, global, weak, func}
 use Rattle.elf_model.specs.Fields.{same_name}
 use Rattle.elf_model.specs.Objects.{ObjectParts, is_code, is_alloc}
 use Rattle.elf_model.specs.Canonical.{round_up}
+use Rattle.elf_model.specs.declared.ranges.RangeKind.TheVariants.{Data}
+use Rattle.elf_model.specs.Ranges.{IsBeginning}
 use Rattle.mark_word.specs.declared.marks.Mark.TheVariants.{Return}
 use Rattle.mark_word.specs.Words.{Word, Cell, plain, bare}
 use Rattle.thumb_table.specs.declared.placements.Placement.{Placement}
-use Rattle.thumb_table.specs.Parts.{CodeBytes, Memory, Image}
+use Rattle.thumb_table.specs.Parts.{Image}
 use Rattle.thumb_table.specs.declared.parts.Part.{Part}
 use Rattle.thumb_table.specs.declared.parts.NamedEntry.{NamedEntry}
-use Rattle.thumb_table.specs.States.{Core, State}
+use Rattle.thumb_table.specs.States.{State}
 
 -- A placement is where code and data go: code from `base` on, in `room` bytes, then data, then `stack` bytes.
 pub record IsPlacement (at : Placement) : Type 0 where
@@ -153,27 +153,9 @@ entries_of objects parts =
     map (λ d. record { name = d.symbol.name; address = even (address_of parts d) + 1 })
     (filter (λ d. is_function parts d && is_standing objects d (resolved objects d.symbol.name)) (all_symbols 0 objects))
 
--- A mapping symbol says what begins at its place: `$t` code, `$a` Arm code, `$d` data, each also with a dot
--- and text behind it (ELF for the Arm Architecture, mapping symbols).
-abbrev pub is_mapping_of : List ℕ → Symbol → Bool
-is_mapping_of name s = (s.bind == local) && (s.kind == notype) && (same_name s.name name || starts_with nat_eq s.name (name ++ codes "."))
-
-abbrev pub is_mapping : Symbol → Bool
-is_mapping s = is_mapping_of (codes "$t") s || is_mapping_of (codes "$a") s || is_mapping_of (codes "$d") s
-
-abbrev pub stands_at : ℕ → ℕ → Home → ℕ → ℕ → Bool
-stands_at j x home.Undefined i value = false
-stands_at j x home.Absolute i value = false
-stands_at j x (home.Section k) i value = (k == j) && (value == x)
-
--- Data begins at an offset of a section: of the mapping symbols there the last one says so.
-pub record IsDataStart (o : ObjectParts) (j x : ℕ) : Type 0 where
-  pub index : ℕ
-  pub symbol : Symbol
-  pub is_there : slice_get o.symbols index ≡ Some symbol
-  pub is_data : is_mapping_of (codes "$d") symbol ≡ true
-  pub stands : stands_at j x symbol.home 0 symbol.value ≡ true
-  pub last : (k : ℕ) (other : Symbol) → index < k → slice_get o.symbols k ≡ Some other → is_mapping other ≡ true → stands_at j x other.home 0 other.value ≡ false
+-- data begins at an offset of a section
+abbrev pub IsDataStart : ObjectParts → ℕ → ℕ → Type 0
+IsDataStart o j x = IsBeginning o Data j x
 
 -- A stop is a function's address, the start of data in code, or the end of a code section.
 pub data IsStop (objects : List ObjectParts) (parts : List Placed) : ℕ → Type 0 where

@@ -1,6 +1,11 @@
 pub mod Parts
 pub mod States
+pub mod Conditions
+pub mod Values
+pub mod Effects
+pub mod Ordinary
 pub mod Steps
 pub mod Schedules
 pub mod Images
 pub mod Views
+pub mod Results

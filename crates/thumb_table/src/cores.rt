@@ -1,13 +1,16 @@
 //! The processor's registers and flags.
 
 ghost use Rattle.std.specs.Prelude.{◌≡◌};
-ghost use Rattle.thumb_table.specs.States.{it_after};
-ghost use Rattle.thumb_table.specs.Steps.{even_condition, condition, takes_effect};
+ghost use Rattle.thumb_instr.specs.Blocks.{it_after as it_after_of};
+ghost use Rattle.thumb_table.specs.States.{is_askew, read};
+ghost use Rattle.thumb_table.specs.Conditions.{holds};
+ghost use Rattle.thumb_table.specs.Steps.{takes_effect};
 ghost use Rattle.thumb_table.specs.Views.{alone};
 
 use mark_word::Word;
+use thumb_instr::{Cond, Reg, block_condition, it_after};
 
-/// r0 to r12, sp and lr; pc; the flags; the IT state.
+/// r0 to r12, sp and lr; pc; the flags; the IT state (ARMv7-M ARM, B1.4).
 #[derive(Clone, Copy, Debug)]
 pub struct Core {
     pub r: [Word; 15],
@@ -19,31 +22,35 @@ pub struct Core {
     pub it: u8,
 }
 
-/// Whether the first of a pair of conditions holds.
-fn holds_even(pair: u8, s: &Core) -> bool
-    ensures { result ≡ even_condition pair (alone s.now) }
-{
-    match pair {
-        0 => s.z,
-        1 => s.c,
-        2 => s.n,
-        3 => s.v,
-        4 => s.c && !s.z,
-        5 => s.n == s.v,
-        6 => !s.z && s.n == s.v,
-        _ => true,
+impl Core {
+    /// The word of a register.
+    pub(crate) fn word(&self, r: Reg) -> Word
+        ensures { result ≡ read (alone self.now) r }
+    {
+        self.r[r.number() as usize]
     }
 }
 
-/// Whether a condition holds.
-fn holds(cond: u8, s: &Core) -> bool
-    ensures { result ≡ condition cond (alone s.now) }
+/// Whether a condition holds (ARMv7-M ARM, A7.3).
+pub(crate) fn holds(cond: Cond, s: &Core) -> bool
+    ensures { result ≡ holds cond (alone s.now) }
 {
-    let even = holds_even(cond / 2, s);
-    if cond % 2 == 1 && cond != 15 {
-        !even
-    } else {
-        even
+    match cond {
+        Cond::Eq => s.z,
+        Cond::Ne => !s.z,
+        Cond::Cs => s.c,
+        Cond::Cc => !s.c,
+        Cond::Mi => s.n,
+        Cond::Pl => !s.n,
+        Cond::Vs => s.v,
+        Cond::Vc => !s.v,
+        Cond::Hi => s.c && !s.z,
+        Cond::Ls => !(s.c && !s.z),
+        Cond::Ge => s.n == s.v,
+        Cond::Lt => !(s.n == s.v),
+        Cond::Gt => !s.z && s.n == s.v,
+        Cond::Le => !(!s.z && s.n == s.v),
+        Cond::Al => true,
     }
 }
 
@@ -51,16 +58,20 @@ fn holds(cond: u8, s: &Core) -> bool
 pub(crate) fn takes_effect(s: &Core) -> bool
     ensures { result ≡ takes_effect (alone s.now) }
 {
-    s.it % 16 == 0 || holds(s.it / 16, s)
+    holds(block_condition(s.it), s)
 }
 
-/// The IT state behind an instruction.
-pub fn it_after(it: u8) -> u8
-    ensures { result ≡ it_after it }
+/// Whether a write would make sp no multiple of 4.
+pub(crate) fn is_askew(d: Reg, w: Word) -> bool
+    ensures { result ≡ is_askew (d, w) }
 {
-    if it % 8 == 0 {
-        0
-    } else {
-        it / 32 * 32 + it % 16 * 2
-    }
+    d.number() == 13 && w.bits() % 4 != 0
+}
+
+/// Falls to the next instruction.
+pub(crate) fn fall(next: u32, s: &mut Core)
+    ensures { s.new ≡ record s.old { pc = next; it = it_after_of s.old.it } }
+{
+    s.pc = next;
+    s.it = it_after(s.it);
 }

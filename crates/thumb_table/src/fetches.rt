@@ -1,7 +1,7 @@
 //! Halfwords of code.
 
 ghost use Rattle.std.specs.Prelude.{◌≡◌, Some, None, if◌then◌else◌};
-ghost use Rattle.thumb_table.specs.Steps.{lies, half_of};
+ghost use Rattle.thumb_table.specs.Effects.{lies, half_of};
 
 use crate::CodeBytes;
 use byteorder::{ByteOrder, LittleEndian};

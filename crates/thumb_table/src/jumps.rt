@@ -2,7 +2,7 @@
 
 ghost use Rattle.std.specs.Prelude.{◌≡◌, ◌<◌, ◌+◌, ◌↔◌, ◌^◌, IsTrue, Contains, length};
 ghost use Rattle.std.specs.List.Sorted.{IsStrictlyIncreasing};
-ghost use Rattle.thumb_table.specs.Steps.{IsNop, IsClear, OrdinaryJump};
+ghost use Rattle.thumb_table.specs.Ordinary.{IsNop, IsClear, OrdinaryReturn, OrdinaryJump};
 
 use crate::CodeBytes;
 use mark_word::{Mark, Word};
@@ -41,17 +41,27 @@ fn is_clear(code: &CodeBytes, address: u32) -> bool
     }
 }
 
-/// Whether a jump to a word is an ordinary one.
-pub(crate) fn is_ordinary_jump(code: &CodeBytes, w: &Word) -> bool
+/// Whether a return to a word is an ordinary one.
+pub(crate) fn is_ordinary_return(code: &CodeBytes, w: Word) -> bool
     requires stops { IsStrictlyIncreasing code.now.stops }
     requires ends { code.now.base + length code.now.bytes < 2 ^ 32 }
-    ensures { IsTrue result ↔ OrdinaryJump code.now w.now }
+    ensures { IsTrue result ↔ OrdinaryReturn code.now w }
 {
     let bits = w.bits();
     match w.mark() {
-        Mark::Plain => false,
-        Mark::Entry(_) => true,
         Mark::Return(_) => bits == 0x7fff_ffff || is_clear(code, bits - bits % 2),
-        Mark::Low(_) => false,
+        _ => false,
+    }
+}
+
+/// Whether a jump to a word is an ordinary one.
+pub(crate) fn is_ordinary_jump(code: &CodeBytes, w: Word) -> bool
+    requires stops { IsStrictlyIncreasing code.now.stops }
+    requires ends { code.now.base + length code.now.bytes < 2 ^ 32 }
+    ensures { IsTrue result ↔ OrdinaryJump code.now w }
+{
+    match w.mark() {
+        Mark::Entry(_) => true,
+        _ => is_ordinary_return(code, w),
     }
 }

@@ -1,6 +1,6 @@
 //! Code, memory, and what an image has of each object.
 
-ghost use Rattle.std.specs.Prelude.{◌≡◌};
+ghost use Rattle.std.specs.Prelude.{◌≡◌, ◌≤◌, ◌<◌, ◌+◌, ◌-◌, length, slice_set};
 
 use elf_model::Name;
 use mark_word::{Cell, Mark};
@@ -126,6 +126,15 @@ impl Memory {
         ensures { result.now ≡ self.now.cells }
     {
         &self.cells
+    }
+
+    /// Writes a byte.
+    pub(crate) fn set(&mut self, address: u32, cell: Cell)
+        requires starts { self.old.base ≤ address }
+        requires ends { address < self.old.base + length self.old.cells }
+        ensures { self.new ≡ record self.old { cells = slice_set self.old.cells (address - self.old.base) cell } }
+    {
+        self.cells[(address - self.base) as usize] = cell;
     }
 }
 

@@ -84,7 +84,6 @@ fn registers(w: Word, it: u8) -> Core
 #[test]
 fn moves_words(rt: HostRuntime) -> Result<(), Fail> {
     let code = code(rt.alloc())?;
-    let mut memory = Memory::new(0x8008, Vec::new(rt.alloc()));
     let entry = Word::entry(0x8001);
     for (d, x, it, answer, word) in [
         (0, Operand::Imm(5), 0, Ok(true), Word::plain(5)),
@@ -100,6 +99,7 @@ fn moves_words(rt: HostRuntime) -> Result<(), Fail> {
     ] {
         let d = Reg::new(d).unwrap();
         let i = Instr::Move(Move::new(MoveOp::Mov, true, d, x).unwrap());
+        let mut memory = Memory::new(0x8008, Vec::new(rt.alloc()));
         let mut s = registers(entry, it);
         assert_eq!(rt;
             apply(&i, false, &code, &mut s, &mut memory),
@@ -115,7 +115,6 @@ fn moves_words(rt: HostRuntime) -> Result<(), Fail> {
 #[test]
 fn jumps(rt: HostRuntime) -> Result<(), Fail> {
     let code = code(rt.alloc())?;
-    let mut memory = Memory::new(0x8008, Vec::new(rt.alloc()));
     let i = Instr::Jump(Jump::new(Reg::new(1).unwrap()).unwrap());
     for (w, answer, pc) in [
         (Word::returning(0x7fff_ffff), Ok(true), 0x7fff_fffe),
@@ -126,6 +125,7 @@ fn jumps(rt: HostRuntime) -> Result<(), Fail> {
         (Word::plain(0x8001), Ok(false), 0x8000),
         (Word::plain(0x8002), Err(FaultKind::BadJump), 0x8000),
     ] {
+        let mut memory = Memory::new(0x8008, Vec::new(rt.alloc()));
         let mut s = registers(w, 0);
         assert_eq!(rt;
             apply(&i, true, &code, &mut s, &mut memory),
@@ -134,6 +134,5 @@ fn jumps(rt: HostRuntime) -> Result<(), Fail> {
         );
         assert_eq!(rt; s.pc, pc, "{w:?}");
     }
-    assert_eq!(rt; it_after(0x0c), 0x18);
     Ok(())
 }

@@ -1,5 +1,5 @@
 use Rattle.std.proofs.Common.{◌+◌, ◌-◌, length}
-use Rattle.thumb_table.specs.Steps.{IsClear}
+use Rattle.thumb_table.specs.Ordinary.{IsClear}
 use Rattle.thumb_table.proofs.jumps.is_clear.Given as goal
 
 abbrev pub invariant-walk : goal.invariant-walk

@@ -1,0 +1,23 @@
+use Rattle.std.proofs.Common.{◌≡◌, ◌%◌, [], ◌∷◌, refl}
+use Rattle.thumb_instr.specs.declared.instructions.Instr.TheVariants as instr
+use Rattle.mark_word.specs.Formulas.{shift_c}
+use Rattle.thumb_table.specs.Parts.{Memory}
+use Rattle.thumb_table.specs.States.{Site, Outcome, upright}
+use Rattle.thumb_table.specs.Effects.{change, value, writing, with_flags}
+use Rattle.thumb_table.specs.Views.{core_of}
+use Rattle.thumb_table.proofs.ResultLemmas.{makes_of, stops_of}
+use Rattle.thumb_table.proofs.arithmetic.apply_shift_by.Goals as goal
+
+pub returns : goal.returns
+unfolding change
+returns c =
+    let i = c.args.i.now in
+    let s = c.args.s.now in
+    let outcome : Outcome = upright (with_flags c.s.result c.logical-r.result (writing ((c.d.result, c.plain.result) ∷ []))) in
+    let same : (site : Site) (m : Memory) → change (instr.ShiftBy i) site (core_of s m) ≡ outcome = λ site m.
+    let made : shift_c (value (core_of s m) i.n) i.kind (value (core_of s m) i.m % 256) s.c ≡ c.shift_c-shifted.result = cc in
+    rw (made, c.s.ensures, c.d.ensures, c.plain.ensures, c.logical-r.ensures) refl in
+    record {
+      done = makes_of (instr.ShiftBy i) outcome c.args.next s c.write_flagged.new.s c.write_flagged.result same c.write_flagged.ensures.done;
+      fault = stops_of (instr.ShiftBy i) outcome c.args.next s c.write_flagged.new.s c.write_flagged.result same c.write_flagged.ensures.fault;
+    }

@@ -1,0 +1,7 @@
+use Rattle.std.proofs.Common.{refl}
+use Rattle.thumb_table.specs.Effects.{change}
+use Rattle.thumb_table.proofs.branches.apply_nothing.Goals as goal
+
+pub returns : goal.returns
+unfolding change
+returns c = λ code m width e. rw c.fall.ensures refl

@@ -1,0 +1,23 @@
+use Rattle.std.proofs.Common.{◌≡◌, ◌*◌, not, [], ◌∷◌, refl}
+use Rattle.thumb_instr.specs.declared.instructions.Instr.TheVariants as instr
+use Rattle.thumb_table.specs.Parts.{Memory}
+use Rattle.thumb_table.specs.States.{Site, Outcome, upright}
+use Rattle.thumb_table.specs.Values.{moved, wrapped}
+use Rattle.thumb_table.specs.Effects.{change, value, writing}
+use Rattle.thumb_table.specs.Views.{core_of}
+use Rattle.thumb_table.proofs.ResultLemmas.{makes_of, stops_of}
+use Rattle.thumb_table.proofs.products.apply_mul_acc.Goals as goal
+
+pub returns : goal.returns
+unfolding change
+returns c =
+    let i = c.args.i.now in
+    let s = c.args.s.now in
+    let outcome : Outcome = upright (writing ((c.d.result, c.plain.result) ∷ [])) in
+    let same : (site : Site) (m : Memory) → change (instr.MulAcc i) site (core_of s m) ≡ outcome = λ site m.
+    let made : moved (not i.minus) (value (core_of s m) i.a) (wrapped (value (core_of s m) i.n * value (core_of s m) i.m)) ≡ c.moved-sum.result = cc in
+    rw (made, c.d.ensures, c.plain.ensures) refl in
+    record {
+      done = makes_of (instr.MulAcc i) outcome c.args.next s c.write_word.new.s c.write_word.result same c.write_word.ensures.done;
+      fault = stops_of (instr.MulAcc i) outcome c.args.next s c.write_word.new.s c.write_word.result same c.write_word.ensures.fault;
+    }
