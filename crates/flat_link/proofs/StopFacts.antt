@@ -11,7 +11,8 @@ use Rattle.elf_model.specs.declared.objects.Home.{Home}
 use Rattle.elf_model.specs.declared.objects.Home.TheVariants as home
 use Rattle.elf_model.specs.Constants.{func}
 use Rattle.elf_model.specs.Objects.{ObjectParts, is_section, is_code}
-use Rattle.thumb_table.specs.Images.{Placed, Defined, numbered, all_symbols, is_function, is_in_code, address_of, even, is_mapping, is_mapping_of, stands_at, IsDataStart, IsStop}
+use Rattle.thumb_table.specs.Images.{Placed, Defined, numbered, all_symbols, is_function, is_in_code, address_of, even, IsDataStart, IsStop}
+use Rattle.elf_model.specs.Ranges.{is_mapping, is_mapping_of, stands_at}
 use Rattle.thumb_table.specs.Images.IsStop.{at_function, at_data, at_end}
 use Rattle.flat_link.specs.declared.places.Sort.TheVariants.{Code, Data}
 use Rattle.flat_link.specs.Placing.{parts_from, code_starts}
@@ -59,18 +60,18 @@ last_is symbols k j x h = go (last_mapping 0 symbols j x) h
     go None h = absurd (cc)
     go (Some i) h = ap (λ (n : ℕ). Some n) (eqb-true i k h)
 
-data_start : (o : ObjectParts) (k j x : ℕ) (s : Symbol) → slice_get o.symbols k ≡ Some s → is_mapping_of (codes "$d") s ≡ true → stands_at j x s.home 0 s.value ≡ true
+data_start : (o : ObjectParts) (k j x : ℕ) (s : Symbol) → slice_get o.symbols k ≡ Some s → is_mapping_of (codes "$d") s ≡ true → stands_at j x s.home s.value ≡ true
     → last_mapping 0 o.symbols j x ≡ Some k → IsDataStart o j x
 data_start o k j x s e y stands h = record {
   index = k;
   symbol = s;
   is_there = e;
-  is_data = y;
+  is_kind = y;
   stands = stands;
   last = λ i other l at m.
-      elim (cases_Bool (stands_at j x other.home 0 other.value)) [
+      elim (cases_Bool (stands_at j x other.home other.value)) [
         | inl z ↦
-            let r = covers 0 o.symbols j x i other at (and_from (is_mapping other) (stands_at j x other.home 0 other.value) m z) in
+            let r = covers 0 o.symbols j x i other at (and_from (is_mapping other) (stands_at j x other.home other.value) m z) in
             let same : r.0 ≡ k = same_Some r.0 k (sym r.1 ∙ h) in
             let low = r.2 in
             absurd (omega arith)
@@ -80,14 +81,14 @@ data_start o k j x s e y stands h = record {
 
 data_last : (o : ObjectParts) (j x : ℕ) (d : IsDataStart o j x) → last_mapping 0 o.symbols j x ≡ Some d.index
 data_last o j x d =
-    let mapping : is_mapping d.symbol ≡ true = letters d.symbol d.is_data in
-    let r = covers 0 o.symbols j x d.index d.symbol d.is_there (and_from (is_mapping d.symbol) (stands_at j x d.symbol.home 0 d.symbol.value) mapping d.stands) in
+    let mapping : is_mapping d.symbol ≡ true = letters d.symbol d.is_kind in
+    let r = covers 0 o.symbols j x d.index d.symbol d.is_there (and_from (is_mapping d.symbol) (stands_at j x d.symbol.home d.symbol.value) mapping d.stands) in
     let q = sound 0 o.symbols j x r.0 r.1 in
-    let p = and_parts (is_mapping q.symbol) (stands_at j x q.symbol.home 0 q.symbol.value) q.maps in
+    let p = and_parts (is_mapping q.symbol) (stands_at j x q.symbol.home q.symbol.value) q.maps in
     let same : r.0 - 0 ≡ r.0 = omega arith in
     let low = r.2 in
     elim (cases_lt d.index r.0) [
-      | inl l ↦ absurd (both_ways (stands_at j x q.symbol.home 0 q.symbol.value) (d.last r.0 q.symbol l (ap (slice_get o.symbols) (sym same) ∙ q.there) p.0) p.1)
+      | inl l ↦ absurd (both_ways (stands_at j x q.symbol.home q.symbol.value) (d.last r.0 q.symbol l (ap (slice_get o.symbols) (sym same) ∙ q.there) p.0) p.1)
       | inr l ↦ let e : r.0 ≡ d.index = omega arith in r.1 ∙ ap (λ (n : ℕ). Some n) e
     ]
   where
@@ -107,7 +108,7 @@ module _ (base memory : ℕ) (o : ObjectParts) (ok : list_all is_section o.secti
       let r = starts_at base 0 0 o.sections j b ok (in_table (slice_get (code_starts base o.sections) j) b c) in
       let code = (part_is Code base 0 0 o.sections r.part r.there).sorted in
       let number : j ≡ r.part.index = omega (arith, r.number) in
-      let stands : stands_at j s.value s.home 0 s.value ≡ true = ap (λ (h : Home). stands_at j s.value h 0 s.value) at ∙ and_from (j == j) (s.value == s.value) (eq-eqb j j refl) (eq-eqb s.value s.value refl) in
+      let stands : stands_at j s.value s.home s.value ≡ true = ap (λ (h : Home). stands_at j s.value h s.value) at ∙ and_from (j == j) (s.value == s.value) (eq-eqb j j refl) (eq-eqb s.value s.value refl) in
       let start = data_start o k j s.value s e y stands (last_is o.symbols k j s.value l) in
       subst (λ (n : ℕ). IsStop (o ∷ []) (both base memory o.sections) (n + s.value)) r.at
       (at_data r.part o s.value (Contains-append_left (parts_from Code base 0 0 o.sections) (parts_from Data memory 0 0 o.sections) r.part r.there) code
@@ -192,7 +193,7 @@ module _ (base memory : ℕ) (o : ObjectParts) (ok : list_all is_section o.secti
       (has_stop (data_place (code_starts base o.sections) o.symbols) 0 o.symbols d.index d.symbol (p.start + x) d.is_there
       (ap (λ (n : ℕ). data_place (code_starts base o.sections) o.symbols n d.symbol) k ∙ place at d.symbol.home refl d.stands (data_last o p.index x d)))
     where
-      place : slice_get (code_starts base o.sections) p.index ≡ Some (Some p.start) → (h : Home) → d.symbol.home ≡ h → stands_at p.index x h 0 d.symbol.value ≡ true
+      place : slice_get (code_starts base o.sections) p.index ≡ Some (Some p.start) → (h : Home) → d.symbol.home ≡ h → stands_at p.index x h d.symbol.value ≡ true
           → last_mapping 0 o.symbols p.index x ≡ Some d.index → data_place (code_starts base o.sections) o.symbols d.index d.symbol ≡ Some (p.start + x)
       place at home.Undefined e stands l = absurd (cc)
       place at home.Absolute e stands l = absurd (cc)
@@ -206,7 +207,7 @@ module _ (base memory : ℕ) (o : ObjectParts) (ok : list_all is_section o.secti
           let start : code_start (code_starts base o.sections) d.symbol.home ≡ Some p.start =
           ap (code_start (code_starts base o.sections)) e ∙ ap (λ (n : ℕ). unwrap_or (slice_get (code_starts base o.sections) n) None) same_j ∙ ap (λ (t : Option (Option ℕ)). unwrap_or t None) at in
           ap (λ (b : Bool). cond b (option_map (λ start. start + d.symbol.value) (code_start (code_starts base o.sections) d.symbol.home)) None)
-          (and_from (is_mapping_of (codes "$d") d.symbol) (is_last o.symbols d.index d.symbol.home d.symbol.value) d.is_data last)
+          (and_from (is_mapping_of (codes "$d") d.symbol) (is_last o.symbols d.index d.symbol.home d.symbol.value) d.is_kind last)
           ∙ ap (option_map (λ start. start + d.symbol.value)) start ∙ ap (λ (n : ℕ). Some (p.start + n)) same_x
 
   pub from_stop : (a : ℕ) → IsStop (o ∷ []) (both base memory o.sections) a → Contains (all_stops o.sections o.symbols base) a

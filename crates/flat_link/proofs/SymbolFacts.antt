@@ -4,7 +4,8 @@ use Rattle.std.specs.Prelude.{Contains, slice_get, ◌&&◌}
 use Rattle.std.specs.Option.{option_or, option_to_list}
 use Rattle.std.proofs.lemmas.Option.{none-some, same_Some}
 use Rattle.elf_model.specs.declared.objects.Symbol.{Symbol}
-use Rattle.thumb_table.specs.Images.{Defined, numbered, is_mapping, stands_at}
+use Rattle.thumb_table.specs.Images.{Defined, numbered}
+use Rattle.elf_model.specs.Ranges.{is_mapping, stands_at}
 use Rattle.flat_link.specs.Symbols.{function_place, function_stops, data_place, data_stops, last_mapping}
 use Rattle.flat_link.proofs.Elements.{contains_cases, contains_here, contains_later, contains_none}
 
@@ -98,7 +99,7 @@ has_stop f k (t ∷ rest) (suc i) s a e h =
 
 -- the last mapping symbol at a place
 abbrev pub maps_at : ℕ → ℕ → Symbol → Bool
-maps_at j x s = is_mapping s && stands_at j x s.home 0 s.value
+maps_at j x s = is_mapping s && stands_at j x s.home s.value
 
 pub record IsMappingAt (k : ℕ) (xs : List Symbol) (j x m : ℕ) : Type 0 where
   pub symbol : Symbol

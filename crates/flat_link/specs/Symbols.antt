@@ -9,7 +9,8 @@ use Rattle.elf_model.specs.declared.objects.Home.TheVariants as home
 use Rattle.elf_model.specs.Constants.{global, weak, func}
 use Rattle.elf_model.specs.Fields.{same_name}
 use Rattle.elf_model.specs.Objects.{is_code}
-use Rattle.thumb_table.specs.Images.{is_defined, even, is_mapping_of, is_mapping, stands_at}
+use Rattle.thumb_table.specs.Images.{is_defined, even}
+use Rattle.elf_model.specs.Ranges.{is_mapping_of, is_mapping, stands_at}
 use Rattle.thumb_table.specs.declared.parts.NamedEntry.{NamedEntry}
 use Rattle.flat_link.specs.Placing.{end_after}
 use Rattle.flat_link.specs.declared.places.Sort.TheVariants.{Code}
@@ -33,7 +34,7 @@ function_stops starts (s ∷ rest) = option_to_list (function_place starts s) ++
 abbrev pub last_mapping : ℕ → List Symbol → ℕ → ℕ → Option ℕ
 last_mapping k [] j x = None
 last_mapping k (s ∷ rest) j x =
-    option_or (last_mapping (k + 1) rest j x) (if is_mapping s && stands_at j x s.home 0 s.value then Some k else None)
+    option_or (last_mapping (k + 1) rest j x) (if is_mapping s && stands_at j x s.home s.value then Some k else None)
 
 -- whether symbol number k is the last mapping symbol at its place
 abbrev pub is_number : ℕ → Option ℕ → Bool

@@ -5,7 +5,7 @@ ghost use Rattle.std.specs.List.{list_all};
 ghost use Rattle.std.specs.List.Sorted.{IsStrictlyIncreasing};
 ghost use Rattle.indexmap.specs.IndexMap.{get_by};
 ghost use Rattle.elf_model.specs.Objects.{is_section};
-ghost use Rattle.thumb_table.specs.Images.{is_mapping, is_mapping_of, stands_at};
+ghost use Rattle.elf_model.specs.Ranges.{is_mapping, is_mapping_of, stands_at};
 ghost use Rattle.flat_link.specs.Placing.{end_of};
 ghost use Rattle.flat_link.specs.Symbols.{code_start, function_place, function_stops, last_mapping, is_number, data_place, data_stops, end_stops, IsLow};
 
@@ -101,7 +101,7 @@ fn note_symbol(
     number: u32,
     s: &Symbol,
 ) -> Result<(), AllocError>
-    ensures { OnOk result ((j x : ℕ) → get_by (λ q. (j == q.0) && (x == q.1)) last.new ≡ (if is_mapping s.now && stands_at j x s.now.home 0 s.now.value then Some number else get_by (λ q. (j == q.0) && (x == q.1)) last.old)) }
+    ensures { OnOk result ((j x : ℕ) → get_by (λ q. (j == q.0) && (x == q.1)) last.new ≡ (if is_mapping s.now && stands_at j x s.now.home s.now.value then Some number else get_by (λ q. (j == q.0) && (x == q.1)) last.old)) }
 {
     if !is_mapping(s) {
         return Ok(());

@@ -6,3 +6,4 @@ pub mod Further
 pub mod Schedules
 pub mod PlanTexts
 pub mod Calls
+pub mod Moving

@@ -4,8 +4,9 @@ use Rattle.mark_word.specs.Words.{Cell}
 use Rattle.thumb_instr.specs.Rows.{Answer, decode}
 use Rattle.thumb_table.specs.declared.faults.FaultKind.{FaultKind}
 use Rattle.thumb_table.specs.Parts.{CodeBytes, Memory}
-use Rattle.thumb_table.specs.States.{Core, State, Outcome, at, store_all, applied, it_after}
-use Rattle.thumb_table.specs.Steps.{Fetched, move, fetch, skip_of, step_of, executed, settled, goes_on, place_in_block}
+use Rattle.thumb_table.specs.States.{Core, State, Outcome, at, store_all, applied}
+use Rattle.thumb_instr.specs.Blocks.{it_after, place_in_block}
+use Rattle.thumb_table.specs.Steps.{Fetched, move, fetch, skip_of, step_of, executed, settled, goes_on}
 use Rattle.skip_machine.specs.Machines.{IsSound}
 
 pub record SameSize (m n : Memory) : Type 0 where

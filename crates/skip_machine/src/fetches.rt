@@ -3,10 +3,9 @@
 ghost use Rattle.std.specs.Prelude.{◌≡◌, ◌+◌, ◌<◌, ◌^◌, length};
 ghost use Rattle.std.specs.Prelude.{option_map};
 ghost use Rattle.skip_machine.specs.Fetches.{as_fetched};
-ghost use Rattle.thumb_table.specs.Steps.{fetch, place_in_block};
+ghost use Rattle.thumb_table.specs.Steps.{fetch};
 
-use crate::decodes::is_wide;
-use thumb_instr::ItPlace;
+use thumb_decode::is_wide;
 use thumb_table::CodeBytes;
 
 /// The halfwords of an instruction, and whether there are two.
@@ -39,17 +38,4 @@ pub(crate) fn fetch(code: &CodeBytes, pc: u32) -> Option<Fetched>
         second,
         wide: true,
     })
-}
-
-/// Where in an IT block an instruction stands.
-pub(crate) fn place_in_block(it: u8) -> ItPlace
-    ensures { result ≡ place_in_block it }
-{
-    if it % 16 == 0 {
-        ItPlace::Outside
-    } else if it % 16 == 8 {
-        ItPlace::Last
-    } else {
-        ItPlace::Inside
-    }
 }

@@ -1,7 +1,6 @@
 //! A machine that runs images under plans of skips.
 #![tactic(auto)]
 
-mod decodes;
 mod fetches;
 mod legal;
 mod machines;

@@ -6,9 +6,10 @@ ghost use Rattle.thumb_table.specs.Views.{state_of};
 ghost use Rattle.skip_machine.specs.Fetches.{as_fetched};
 ghost use Rattle.skip_machine.specs.Machines.{IsSound, OrdinaryStep, PassesOver};
 
-use crate::decodes::decode;
-use crate::fetches::{Fetched, fetch, place_in_block};
-use thumb_table::{CodeBytes, Core, FaultKind, Memory, apply, it_after};
+use crate::fetches::{Fetched, fetch};
+use thumb_decode::decode;
+use thumb_instr::{it_after, place_in_block};
+use thumb_table::{CodeBytes, Core, FaultKind, Memory, apply};
 
 /// Moves past an instruction.
 fn skip(f: &Fetched, s: &mut Core)
@@ -27,7 +28,7 @@ fn execute(f: &Fetched, code: &CodeBytes, s: &mut Core, m: &mut Memory) -> Resul
     ensures ordinary { IfOk result (λ b. IsTrue b ↔ IsOrdinary code.now (Some (as_fetched f.now)) (state_of s.old m.old)) }
     ensures fault { IfErr result (λ kind. (step_of code.now (Some (as_fetched f.now)) (state_of s.old m.old) ≡ Err kind) × (s.new ≡ s.old) × (m.new ≡ m.old)) }
 {
-    match decode(place_in_block(s.it), f.first, f.second) {
+    match decode(f.first, Some(f.second), place_in_block(s.it)) {
         Ok(i) => apply(&i, f.wide, code, s, m),
         Err(why) => Err(FaultKind::BadCode(why)),
     }

@@ -64,6 +64,45 @@ fn runs_under_plans(rt: HostRuntime) -> Result<(), Fail> {
     Ok(())
 }
 
+/// A sum, a sum with the return address, and a load from nowhere.
+#[test]
+fn tells_ordinary_steps(rt: HostRuntime) -> Result<(), Fail> {
+    let alloc = rt.alloc();
+    for (code, outcome, steps, r0, ordinary) in [
+        (
+            [0x01, 0x30, 0x70, 0x47, 0x00, 0xbf],
+            Outcome::Returned,
+            2,
+            10,
+            true,
+        ),
+        (
+            [0x70, 0x46, 0x01, 0x30, 0x70, 0x47],
+            Outcome::Returned,
+            3,
+            0x8000_0000,
+            false,
+        ),
+        (
+            [0x00, 0x68, 0x70, 0x47, 0x00, 0xbf],
+            Outcome::Fault(FaultKind::BadAddress, 0x8000),
+            0,
+            9,
+            true,
+        ),
+    ] {
+        let image = image(alloc, &code)?;
+        let mut machine = Machine::new(alloc, &image, 64)?;
+        let plan = Plan::read(alloc, "", 2)?;
+        machine.start(0x8001, &[9]);
+        assert_eq!(rt; machine.run(10, &plan), outcome);
+        assert_eq!(rt; machine.steps(), steps);
+        assert_eq!(rt; machine.registers().r[0].bits(), r0);
+        assert_eq!(rt; machine.is_ordinary(), ordinary);
+    }
+    Ok(())
+}
+
 #[test]
 fn starts_and_steps(rt: HostRuntime) -> Result<(), Fail> {
     let alloc = rt.alloc();

@@ -1,7 +1,7 @@
-use Rattle.std.proofs.Common.{◌≡◌, ◌+◌, ◌-◌, ◌<◌, ◌≤◌, length, get_or, arith, refl, ap}
+use Rattle.std.proofs.Common.{◌≡◌, ◌+◌, ◌-◌, ◌<◌, length, get_or, arith, refl, ap}
 use Rattle.std.proofs.lemmas.Bool.{false≢true}
 use Rattle.thumb_table.proofs.StopLemmas.{rises}
-use Rattle.skip_machine.proofs.Schedules.{apart, spare, crowd}
+use Rattle.skip_machine.proofs.Schedules.{spare, crowd}
 use Rattle.skip_machine.proofs.legal.spares.Goals as goal
 
 pub overflow_sub-numbers : goal.overflow_sub-numbers

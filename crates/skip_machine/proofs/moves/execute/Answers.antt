@@ -1,6 +1,6 @@
 use Rattle.std.proofs.Common.{◌≡◌, Ok}
 use Rattle.thumb_instr.specs.Rows.{decode}
-use Rattle.thumb_table.specs.Steps.{place_in_block}
+use Rattle.thumb_instr.specs.Blocks.{place_in_block}
 use Rattle.skip_machine.proofs.moves.execute.Goals as goal
 
 pub returns-in-Ok-clause-ordinary : goal.returns-in-Ok-clause-ordinary

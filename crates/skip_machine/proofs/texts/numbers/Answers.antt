@@ -1,7 +1,7 @@
-use Rattle.std.proofs.Common.{ℕ, ◌<◌, ◌^◌, [], Some, None, arith, rules}
+use Rattle.std.proofs.Common.{◌<◌, ◌^◌, [], Some, None, arith, rules}
 use Rattle.std.proofs.lemmas.List.Elements.{All-push}
 use Rattle.std.proofs.lemmas.Str.Pattern.{split_parts}
-use Rattle.skip_machine.specs.Plans.{parts_of, IsNumber, AreNumbers}
+use Rattle.skip_machine.specs.Plans.{parts_of, IsNumber}
 use Rattle.skip_machine.proofs.PlanTexts.{without_comma, stuck, pushed, cut, uncut, finished}
 use Rattle.skip_machine.proofs.texts.numbers.Goals as goal
 

@@ -1,4 +1,4 @@
-use Rattle.std.proofs.Common.{◌≡◌, ℕ, ◌<◌, List, length, arith, refl, sym, subst}
+use Rattle.std.proofs.Common.{ℕ, ◌<◌, List, length, refl, sym, subst}
 use Rattle.std.proofs.lemmas.Bool.{false≢true}
 use Rattle.thumb_table.specs.Schedules.{IsLegal}
 use Rattle.skip_machine.specs.Plans.{AreNumbers}
