@@ -1,0 +1,27 @@
+-- The order of places tells them apart.
+use Rattle.std.proofs.Common.{◌≡◌, ℕ, Bool, true, false, cond, refl, sym, ◌∙◌, arith}
+use Rattle.std.specs.Prelude.{◌==◌, nat_lt, ◌&&◌}
+use Rattle.std.specs.declared.cmp.Ordering.TheVariants.{Less, Equal, Greater}
+use Rattle.std.specs.Ordering.{nat_cmp, is_eq, ordering_then}
+use Rattle.std.proofs.lemmas.Bool.{ltb-true, ne_eqb, true≢false}
+use Rattle.flow_recover.specs.Spans.{place_cmp}
+
+same_number : (a b : ℕ) → is_eq (nat_cmp a b) ≡ (a == b)
+same_number a b = go (nat_lt a b) refl
+  where
+    go : (l : Bool) → nat_lt a b ≡ l → is_eq (cond l Less (cond (a == b) Equal Greater)) ≡ (a == b)
+    go true e = sym (ne_eqb a b (λ z. absurd (omega (arith, ltb-true a b e, z))))
+    go false e = alike (a == b)
+      where
+        alike : (t : Bool) → is_eq (cond t Equal Greater) ≡ t
+        alike true = refl
+        alike false = refl
+
+pub same_place : (a b j x : ℕ) → is_eq (place_cmp (a, b) (j, x)) ≡ ((a == j) && (b == x))
+same_place a b j x = go (nat_lt a j) refl (a == j) refl
+  where
+    go : (l : Bool) → nat_lt a j ≡ l → (t : Bool) → (a == j) ≡ t → is_eq (ordering_then (cond l Less (cond t Equal Greater)) (nat_cmp b x)) ≡ (t && (b == x))
+    go true e true f = absurd (true≢false (sym f ∙ ne_eqb a j (λ z. absurd (omega (arith, ltb-true a j e, z)))))
+    go true e false f = refl
+    go false e true f = same_number b x
+    go false e false f = refl

@@ -1,0 +1,5 @@
+pub mod CodeRanges
+pub mod Spans
+pub mod Spots
+pub mod Flows
+pub mod AllRanges
