@@ -1,0 +1,9 @@
+pub mod MemberFacts
+pub mod PointFacts
+pub mod PathFacts
+pub mod RoomFacts
+pub mod SweepFacts
+pub mod SpotFacts
+pub mod Elements
+pub mod LowestFacts
+pub mod FaultFacts

@@ -1,0 +1,17 @@
+//! Which registers and flags are live before each point of a flow.
+#![tactic(auto)]
+
+mod boundary;
+mod liveness;
+mod members;
+mod points;
+mod sets;
+mod spots;
+mod sweeps;
+
+pub use boundary::Boundary;
+pub use liveness::live;
+pub use sets::Live;
+
+#[cfg(test)]
+mod tests;

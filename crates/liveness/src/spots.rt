@@ -1,0 +1,154 @@
+//! What stands in the way of sets that are settled.
+
+ghost use Rattle.std.specs.Prelude.{◌≡◌, ◌<◌, ◌++◌, IfOk, OnOk, All, Contains, length, slice_get, Some, ℕ};
+ghost use Rattle.elf_model.specs.declared.refusals.Refusal.{Refusal};
+ghost use Rattle.flow_recover.specs.CodeRanges.{comes_before};
+ghost use Rattle.flow_recover.specs.Spots.{spot_of, earlier, IsFirst};
+ghost use Rattle.liveness.specs.Paths.{NamesPoints};
+ghost use Rattle.liveness.specs.Spots.{first_member, entry_spot, is_call, first_after, spot_at_call, call_spot, picked, all_spots};
+
+use crate::Live;
+use crate::members::is_member;
+use elf_model::{Refusal, Spot};
+use flow_recover::{Exit, Flow, Point};
+use std::alloc::{AllocError, Global};
+use thumb_instr::RegSet;
+
+// r12 and the flags, and these with lr.
+const UNSET_AT_ENTRY: [u8; 5] = [12, 16, 17, 18, 19];
+
+const LOST_IN_CALL: [u8; 6] = [12, 14, 16, 17, 18, 19];
+
+/// The first of some numbers that is a member.
+fn first_member(set: RegSet, among: &[u8]) -> Option<u8>
+    requires { All (λ k. k < 32) among.now }
+    ensures { result ≡ first_member among.now set }
+{
+    for k in among {
+        if is_member(set, *k) {
+            return Some(*k);
+        }
+    }
+    None
+}
+
+fn spot_of(refusal: Refusal, x: &Point) -> Spot
+    ensures { result ≡ spot_of refusal x.now.section x.now.offset }
+{
+    Spot {
+        refusal,
+        file: 0,
+        section: x.section,
+        offset: x.offset,
+    }
+}
+
+/// The lowest member that an entry must not have live.
+fn entry_spot(f: &Flow, sets: &Live, p: u32) -> Option<Spot>
+    requires sized { length sets.now.sets ≡ length f.now.points }
+    requires there { p < length f.now.points }
+    ensures { result ≡ entry_spot f.now.points sets.now.sets p }
+{
+    let x = f.points()[p as usize];
+    match first_member(sets.before(p), &UNSET_AT_ENTRY) {
+        None => None,
+        Some(register) => Some(spot_of(Refusal::LiveAtEntry { register }, &x)),
+    }
+}
+
+fn is_call(exit: Exit) -> bool
+    ensures { result ≡ is_call exit }
+{
+    matches!(exit, Exit::Call)
+}
+
+/// The lowest member that a call must not have live where it returns to.
+fn first_after(sets: &Live, next: Option<u32>) -> Option<u8>
+    requires { (q : ℕ) → next ≡ Some q → q < length sets.now.sets }
+    ensures { result ≡ first_after sets.now.sets next }
+{
+    match next {
+        None => None,
+        Some(q) => first_member(sets.before(q), &LOST_IN_CALL),
+    }
+}
+
+fn call_spot(sets: &Live, x: &Point) -> Option<Spot>
+    requires { (q : ℕ) → x.now.next ≡ Some q → q < length sets.now.sets }
+    ensures { result ≡ call_spot sets.now.sets x.now }
+{
+    if !is_call(x.exit) {
+        return None;
+    }
+    match first_after(sets, x.next) {
+        None => None,
+        Some(register) => Some(spot_of(Refusal::LiveAtReturn { register }, x)),
+    }
+}
+
+fn push_entries(spots: &mut Vec<Spot>, f: &Flow, sets: &Live) -> Result<(), AllocError>
+    requires flow { NamesPoints f.now }
+    requires sized { length sets.now.sets ≡ length f.now.points }
+    ensures { OnOk result (spots.new.items ≡ spots.old.items ++ picked (entry_spot f.now.points sets.now.sets) f.now.entries) }
+{
+    for p in f.entries() {
+        if let Some(spot) = entry_spot(f, sets, *p) {
+            spots.push(spot)?;
+        }
+    }
+    Ok(())
+}
+
+fn push_calls(spots: &mut Vec<Spot>, f: &Flow, sets: &Live) -> Result<(), AllocError>
+    requires flow { NamesPoints f.now }
+    requires sized { length sets.now.sets ≡ length f.now.points }
+    ensures { OnOk result (spots.new.items ≡ spots.old.items ++ picked (call_spot sets.now.sets) f.now.points) }
+{
+    for x in f.points() {
+        if let Some(spot) = call_spot(sets, x) {
+            spots.push(spot)?;
+        }
+    }
+    Ok(())
+}
+
+/// All that stands in the way, in no order.
+pub(crate) fn spots_of(alloc: Global, f: &Flow, sets: &Live) -> Result<Vec<Spot>, AllocError>
+    requires flow { NamesPoints f.now }
+    requires sized { length sets.now.sets ≡ length f.now.points }
+    ensures { IfOk result (λ spots. spots.items ≡ all_spots f.now sets.now.sets) }
+{
+    let mut spots = Vec::new(alloc);
+    push_entries(&mut spots, f, sets)?;
+    push_calls(&mut spots, f, sets)?;
+    Ok(spots)
+}
+
+fn comes_before(a: Spot, b: Spot) -> bool
+    ensures { result ≡ comes_before a.refusal a.section a.offset b }
+{
+    a.section < b.section
+        || (a.section == b.section
+            && (a.offset < b.offset
+                || (a.offset == b.offset && a.refusal.number() < b.refusal.number())))
+}
+
+fn earlier(first: Option<Spot>, spot: Spot) -> Spot
+    ensures { result ≡ earlier first spot }
+{
+    match first {
+        None => spot,
+        Some(old) => if comes_before(spot, old) { spot } else { old },
+    }
+}
+
+/// The first of them by section, offset and number, if there is one.
+pub(crate) fn first_of(spots: &[Spot]) -> Option<Spot>
+    ensures { IsFirst spots.now result }
+{
+    let mut first: Option<Spot> = None;
+    for s in spots {
+        first = Some(earlier(first, *s));
+    }
+    first
+}
