@@ -2,13 +2,9 @@
 use Rattle.std.specs.Prelude.{◌≡◌, ℕ, ◌+◌, Bool, true, false, List, [], ◌∷◌, length, Option, Some, None, Result, Ok, Err, refl, codes}
 use Rattle.guard_cli.specs.FirstForm.{first_object}
 use Rattle.guard_cli.specs.Output.{hardened_object}
-use Rattle.thumb_instr.specs.Rows.{decode}
-use Rattle.thumb_instr.specs.declared.instructions.Instr.TheVariants.{Move, Jump}
-use Rattle.thumb_instr.specs.declared.operands.MoveOp.TheVariants.{Mov}
-use Rattle.thumb_instr.specs.declared.operands.Operand.TheVariants.{Imm}
-use Rattle.thumb_instr.specs.declared.refusals.BadInstr.TheVariants.{Unknown, PcOperand, Unpredictable}
-use Rattle.thumb_instr.specs.declared.refusals.ItPlace.TheVariants.{Outside, Last, Inside}
+use Rattle.thumb_instr.specs.HalfRows.{half_rows}
 use Rattle.thumb_table.specs.Parts.{CodeBytes}
+use Rattle.thumb_table.specs.Effects.{change}
 use Rattle.thumb_table.specs.States.{State, read}
 use Rattle.thumb_table.specs.declared.faults.FaultKind.{FaultKind}
 use Rattle.thumb_table.specs.Schedules.{run, is_in}
@@ -63,58 +59,46 @@ abbrev skipping : List ℕ → ℕ → Bool
 skipping schedule i = is_in schedule i
 
 plain_run : seen (run plain_code (skipping []) 2 0 begun) ≡ Some (0x7FFFFFFE, 5)
+unfolding half_rows change
 plain_run = refl
 
 -- One skip is enough to change what the plain code gives.
 plain_run_skipped : seen (run plain_code (skipping (0 ∷ [])) 2 0 begun) ≡ Some (0x7FFFFFFE, 9)
+unfolding half_rows change
 plain_run_skipped = refl
 
 hard_run : seen (run hard_code (skipping []) 3 0 begun) ≡ Some (0x7FFFFFFE, 5)
+unfolding half_rows change
 hard_run = refl
 
 -- each single skip
 hard_run_without_0 : seen (run hard_code (skipping (0 ∷ [])) 3 0 begun) ≡ Some (0x7FFFFFFE, 5)
+unfolding half_rows change
 hard_run_without_0 = refl
 
 hard_run_without_1 : seen (run hard_code (skipping (1 ∷ [])) 3 0 begun) ≡ Some (0x7FFFFFFE, 5)
+unfolding half_rows change
 hard_run_without_1 = refl
 
 hard_run_without_2 : seen (run hard_code (skipping (2 ∷ [])) 4 0 begun) ≡ Some (0x7FFFFFFE, 5)
+unfolding half_rows change
 hard_run_without_2 = refl
 
 -- each odd step, and each even one
 hard_run_without_odd : seen (run hard_code (skipping (1 ∷ 3 ∷ [])) 3 0 begun) ≡ Some (0x7FFFFFFE, 5)
+unfolding half_rows change
 hard_run_without_odd = refl
 
 hard_run_without_even : seen (run hard_code (skipping (0 ∷ 2 ∷ [])) 4 0 begun) ≡ Some (0x7FFFFFFE, 5)
+unfolding half_rows change
 hard_run_without_even = refl
 
 -- Two skips in a row do harm.
 hard_run_without_both : seen (run hard_code (skipping (0 ∷ 1 ∷ [])) 3 0 begun) ≡ Some (0x7FFFFFFE, 9)
+unfolding half_rows change
 hard_run_without_both = refl
 
 -- a run that has left the code faults
 run_off : seen (run plain_code (skipping (0 ∷ 1 ∷ [])) 3 0 begun) ≡ None
+unfolding half_rows change
 run_off = refl
-
--- rows of the table
-decode_move : decode Outside 0x2105 0 ≡ Ok (Move (record { op = Mov; s = true; d = 1; x = Imm 5 }))
-decode_move = refl
-
-decode_move_in_block : decode Inside 0x2105 0 ≡ Ok (Move (record { op = Mov; s = false; d = 1; x = Imm 5 }))
-decode_move_in_block = refl
-
-decode_return : decode Last 0x4770 0 ≡ Ok (Jump (record { m = 14 }))
-decode_return = refl
-
-decode_jump_to_pc : decode Inside 0x4778 0 ≡ Err PcOperand
-decode_jump_to_pc = refl
-
-decode_jump_in_block : decode Inside 0x4770 0 ≡ Err Unpredictable
-decode_jump_in_block = refl
-
-decode_other : decode Outside 0x3001 0 ≡ Err Unknown
-decode_other = refl
-
-decode_full : decode Outside 0xF000 0x8000 ≡ Err Unknown
-decode_full = refl

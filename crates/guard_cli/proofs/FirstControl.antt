@@ -1,5 +1,5 @@
 -- A control of what hardening promises: the same code, with a map but each instruction once, isn't hardened, whatever the map says.
-use Rattle.std.proofs.Common.{◌≡◌, ℕ, ◌+◌, ◌<◌, false, List, [], ◌∷◌, Ok, codes, refl, sym, ap, ◌∙◌, subst, inl, lit<, lit≤, ◌||◌, Result, true≢false, ne_eqb, arith}
+use Rattle.std.proofs.Common.{◌≡◌, ℕ, ◌+◌, ◌<◌, false, List, [], ◌∷◌, Ok, codes, refl, sym, ap, ◌∙◌, subst, inl, inr, lit<, lit≤, ◌||◌, Result, true≢false, ne_eqb, arith}
 use Rattle.std.proofs.lemmas.List.Elements.{All-cons, All-nil}
 use Rattle.std.proofs.lemmas.Option.{same_Some}
 use Rattle.elf_model.specs.declared.objects.Section.{Section}
@@ -8,7 +8,10 @@ use Rattle.elf_model.specs.Maps.{map_section}
 use Rattle.guard_cli.specs.FirstForm.{code_bytes, first_object}
 use Rattle.thumb_table.specs.States.{State, at, read}
 use Rattle.thumb_table.specs.declared.faults.FaultKind.{FaultKind}
-use Rattle.thumb_table.specs.Steps.{move}
+use Rattle.thumb_instr.specs.HalfRows.{half_rows}
+use Rattle.thumb_table.specs.Effects.{change}
+use Rattle.thumb_table.specs.Ordinary.{IsPlain, IsLow}
+use Rattle.thumb_table.specs.Steps.{move, fetch, IsOrdinary}
 use Rattle.thumb_table.specs.Schedules.{run, IsLegal, Returns, OrdinaryRun, is_in, exit}
 use Rattle.thumb_table.specs.Images.{IsPlacement, IsImage, start}
 use Rattle.thumb_table.specs.Parts.{Image}
@@ -53,8 +56,12 @@ begun = start both 8 0x8001 args
 abbrev ended : State
 ended = at exit (after_moves (0x2005 ∷ []) begun.core)
 
+plain_run : run both.code (λ i. false) 2 0 begun ≡ Ok ended
+unfolding half_rows change
+plain_run = refl
+
 abbrev returns : Returns both.code (λ i. false) 2 begun ended
-returns = record { steps = 2; within = lit≤ tt; runs = refl; over = refl }
+returns = record { steps = 2; within = lit≤ tt; runs = plain_run; over = refl }
 
 -- the state behind the move
 abbrev moved : State
@@ -63,8 +70,26 @@ moved = at 0x8002 (after_moves (0x2005 ∷ []) begun.core)
 one_end : (r : Result State FaultKind) (s t : State) → r ≡ Ok s → r ≡ Ok t → s ≡ t
 one_end r s t e f = cc
 
+first_step : move both.code false begun ≡ Ok moved
+unfolding half_rows change
+first_step = refl
+
+ordinary_move : IsOrdinary both.code (fetch both.code begun.pc) begun
+unfolding half_rows
+ordinary_move = λ t. record {
+  numbers = All-nil (λ r. IsPlain (read begun.core r).mark);
+  proper = λ e. All-nil (λ r. IsLow (read begun.core r).mark → ⊥);
+}
+
+ordinary_return : IsOrdinary both.code (fetch both.code moved.pc) moved
+unfolding half_rows
+ordinary_return = λ t. record {
+  numbers = All-nil (λ r. IsPlain (read moved.core r).mark);
+  proper = inr ((0x7FFFFFFF, refl), inl refl);
+}
+
 is_ordinary : OrdinaryRun both.code 2 begun
-is_ordinary = ((λ t. tt), λ next e. subst (OrdinaryRun both.code 1) (one_end (move both.code false begun) moved next refl e) ((λ t. inl refl), λ after f. tt))
+is_ordinary = (ordinary_move, λ next e. subst (OrdinaryRun both.code 1) (one_end (move both.code false begun) moved next first_step e) (ordinary_return, λ after f. tt))
 
 -- the move is skipped, and the return is not
 is_legal : IsLegal 2 (0 ∷ [])
@@ -74,6 +99,7 @@ is_legal = record {
 }
 
 skipped_run : run both.code (is_in (0 ∷ [])) 2 0 begun ≡ Ok (at exit begun.core)
+unfolding half_rows change
 skipped_run = refl
 
 not_nine : (n : ℕ) → n ≡ 5 → n ≡ 9 → ⊥

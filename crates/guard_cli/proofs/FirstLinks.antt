@@ -12,7 +12,8 @@ use Rattle.elf_model.specs.Maps.{map_section}
 use Rattle.guard_cli.specs.FirstForm.{IsFirstCode, code_bytes, first_object, code_symbol, function_symbol}
 use Rattle.guard_cli.specs.Output.{doubled, rows_of, hardened_object}
 use Rattle.mark_word.specs.Words.{bare}
-use Rattle.thumb_table.specs.Images.{Placed, as_part, IsPlacement, Defined, IsDataStart, IsStop, CanLink, IsImage, entries_of, code_bytes_of, is_function, even, address_of, is_mapping_of}
+use Rattle.thumb_table.specs.Images.{Placed, as_part, IsPlacement, Defined, IsDataStart, IsStop, CanLink, IsImage, entries_of, code_bytes_of, is_function, even, address_of}
+use Rattle.elf_model.specs.Ranges.{is_mapping_of}
 use Rattle.thumb_table.specs.Parts.{Image}
 use Rattle.thumb_table.specs.declared.placements.Placement.{Placement}
 use Rattle.guard_cli.proofs.FirstImages.{lone_object, AreIdle, map_idle, text_placed, text_alone, text_part, lone_parts, lone_code_bytes, lone_data_bytes, lone_entries, entry_at, first_formed, even_of_entry, length_doubled_bytes}
@@ -67,7 +68,7 @@ module _ (bytes : List ℕ) (more : List Section) where
   no_data_starts : (p : Placed) (o : ObjectParts) (x : ℕ) → p.object ≡ 0 → slice_get (lone bytes more) p.object ≡ Some o → IsDataStart o p.index x → ⊥
   no_data_starts p o x e found d =
       let first : slice_get (lone bytes more) 0 ≡ Some o = subst (λ k. slice_get (lone bytes more) k ≡ Some o) e found in
-      is_no_data d.index d.symbol (subst (λ (v : ObjectParts). slice_get v.symbols d.index ≡ Some d.symbol) (sym (same_Some (lone_object bytes more) o first)) d.is_there) d.is_data
+      is_no_data d.index d.symbol (subst (λ (v : ObjectParts). slice_get v.symbols d.index ≡ Some d.symbol) (sym (same_Some (lone_object bytes more) o first)) d.is_there) d.is_kind
 
   stop_is_listed : (base : ℕ) → base % 4096 ≡ 0 → (a : ℕ) → IsStop (lone bytes more) (text_alone base bytes) a → Contains (stops_of base bytes) a
   stop_is_listed base h a (IsStop.at_function d there is) =

@@ -19,7 +19,7 @@ home_is Undefined e = cc
 home_is Absolute e = cc
 home_is (home.Section i) e = ap home.Section (eqb-true i 0 e)
 
-text_is : (s : Section) → is_text s ≡ true → s ≡ text_section s.bytes
+pub text_is : (s : Section) → is_text s ≡ true → s ≡ text_section s.bytes
 text_is s h5 =
     let h4 = first_of_both _ _ h5 in
     let h3 = first_of_both _ _ h4 in
@@ -38,7 +38,7 @@ same_symbol : (s t : Symbol) → s.name ≡ t.name → s.value ≡ t.value → s
 same_symbol s t name value size bind kind other place =
     λ i. record { name = name i; value = value i; size = size i; bind = bind i; kind = kind i; other = other i; home = place i }
 
-code_symbol_is : (s : Symbol) → is_code_symbol s ≡ true → s ≡ code_symbol
+pub code_symbol_is : (s : Symbol) → is_code_symbol s ≡ true → s ≡ code_symbol
 code_symbol_is s h6 =
     let h5 = first_of_both _ _ h6 in
     let h4 = first_of_both _ _ h5 in
@@ -49,7 +49,7 @@ code_symbol_is s h6 =
     (eqb-true s.size 0 (second_of_both _ _ h2)) (eqb-true s.bind local (second_of_both _ _ h3)) (eqb-true s.kind notype (second_of_both _ _ h4))
     (eqb-true s.other 0 (second_of_both _ _ h5)) (home_is s.home (second_of_both _ _ h6))
 
-function_symbol_is : (size : ℕ) (s : Symbol) → is_function_symbol size s ≡ true → s ≡ function_symbol size
+pub function_symbol_is : (size : ℕ) (s : Symbol) → is_function_symbol size s ≡ true → s ≡ function_symbol size
 function_symbol_is size s h6 =
     let h5 = first_of_both _ _ h6 in
     let h4 = first_of_both _ _ h5 in
@@ -69,7 +69,7 @@ symbols_are size (c ∷ f ∷ []) h =
     let second = function_symbol_is size f (second_of_both _ _ h) in
     ap (λ (x : Symbol). x ∷ f ∷ []) first ∙ ap (λ (x : Symbol). code_symbol ∷ x ∷ []) second
 
-none_are : (rs : List Reloc) → is_empty rs ≡ true → rs ≡ []
+pub none_are : (rs : List Reloc) → is_empty rs ≡ true → rs ≡ []
 none_are [] h = refl
 none_are (r ∷ rs) h = cc
 
@@ -99,7 +99,7 @@ pub record Passes (o : ObjectParts) (s : Section) : Type 0 where
   pub code : IsFirstBytes s.bytes
   pub rest : has_first_rest s.size o ≡ true
 
-text_passes : (code : List ℕ) → is_text (text_section code) ≡ true
+pub text_passes : (code : List ℕ) → is_text (text_section code) ≡ true
 text_passes code = eq-eqb (length code) (length code) refl
 
 rest_passes : (halves : List ℕ) → has_first_rest (length (code_bytes halves)) (first_object halves) ≡ true

@@ -1,7 +1,7 @@
 -- Runs of code of the first form, plain and doubled.
 use Rattle.std.proofs.Common.{◌≡◌, ◌≢◌, ℕ, ◌+◌, ◌*◌, ◌/◌, ◌%◌, ◌<◌, ◌≤◌, ◌==◌, ⊎_elim, Bool, true, false, List, [], ◌∷◌, ◌++◌, length, map, Some, Ok, refl, sym, ap, ◌∙◌, subst, arith, get_or-set_same, get_or-set_other, length-set}
 use Rattle.std.specs.Prelude.{slice_set, All}
-use Rattle.std.proofs.lemmas.Bool.{ne_eqb, cases_eq}
+use Rattle.std.proofs.lemmas.Bool.{ne_eqb, cases_eq, lt-ltb}
 use Rattle.std.proofs.lemmas.List.{set-set, map-append, length-map, length-append}
 use Rattle.std.proofs.lemmas.List.Elements.{All-nil, All-cons, All-head, All-tail, All-weaker, All-push}
 use Rattle.std.proofs.lemmas.Grind.{flat_map-append}
@@ -10,14 +10,17 @@ use Rattle.mark_word.specs.Words.{Word, plain}
 use Rattle.mark_word.specs.declared.marks.Mark.TheVariants.{Plain, Return}
 use Rattle.mark_word.specs.Formulas.{expand_imm}
 use Rattle.thumb_instr.specs.Rows.{decode}
+use Rattle.thumb_instr.specs.HalfRows.{half_rows}
 use Rattle.thumb_instr.specs.declared.instructions.Instr.{Instr}
 use Rattle.thumb_instr.specs.declared.instructions.Instr.TheVariants.{Move, Jump}
-use Rattle.thumb_instr.specs.declared.operands.MoveOp.TheVariants.{Mov}
+use Rattle.thumb_instr.specs.declared.operations.MoveOp.TheVariants.{Mov}
 use Rattle.thumb_instr.specs.declared.operands.Operand.TheVariants.{Imm}
 use Rattle.thumb_instr.specs.declared.refusals.ItPlace.TheVariants.{Outside}
 use Rattle.thumb_table.specs.Parts.{CodeBytes}
-use Rattle.thumb_table.specs.States.{Core, State, Change, Site, Jumps, at, read, change, applied, unchanged, jump_to}
-use Rattle.thumb_table.specs.Steps.{Fetched, place_in_block, takes_effect, goes_on, step_of}
+use Rattle.thumb_instr.specs.Blocks.{place_in_block}
+use Rattle.thumb_table.specs.States.{Core, State, Change, Site, Jumps, at, read, applied, unchanged}
+use Rattle.thumb_table.specs.Effects.{change, jump_to}
+use Rattle.thumb_table.specs.Steps.{Fetched, takes_effect, goes_on, step_of}
 use Rattle.thumb_table.specs.Schedules.{run, exit, Returns}
 use Rattle.guard_cli.specs.Output.{doubled}
 use Rattle.guard_cli.proofs.Groups.{Legal, Leaps, JumpGroup, Comes, it_stays, steps_to, first_step, run_on, comes_on, returns_of, jump_group}
@@ -51,14 +54,26 @@ expand_low i c lt =
     rw (e1, e2, e3)
 
 decode_move : (h : ℕ) → IsMove h → decode Outside h 0 ≡ Ok (Move (record { op = Mov; s = true; d = h / 256 % 8; x = Imm (h % 256) }))
+unfolding half_rows
 decode_move h e =
-    let e1 : h / 1 ≡ h = omega arith in
-    rw (e, e1)
+    let e0 : h / 1 ≡ h = omega arith in
+    let e1 = ne_eqb (h / 512 % 128) 12 (omega arith) in
+    let e2 = ne_eqb (h / 512 % 128) 13 (omega arith) in
+    let e3 = ne_eqb (h / 512 % 128) 14 (omega arith) in
+    let e4 = ne_eqb (h / 512 % 128) 15 (omega arith) in
+    let e5 = lt-ltb (h % 256) 4096 (omega arith) in
+    let e6 = lt-ltb (h % 256) 256 (omega arith) in
+    rw (e, e0, e1, e2, e3, e4, e5, e6)
+
+decode_return : decode Outside return_half 0 ≡ Ok (Jump (record { m = 14 }))
+unfolding half_rows
+decode_return = refl
 
 abbrev register_set : ℕ → ℕ → Core → Change
 register_set d i x = record unchanged { regs = (d, plain i) ∷ []; n = Some false; z = Some (i == 0); c = Some x.c }
 
 change_move : (d i : ℕ) (site : Site) (x : Core) → d < 8 → i < 256 → change (Move (record { op = Mov; s = true; d = d; x = Imm i })) site x ≡ Ok (register_set d i x)
+unfolding change
 change_move d i site x ld li =
     let e1 : i / 2147483648 ≡ 0 = omega arith in
     let e2 = ne_eqb d 13 (omega arith) in
@@ -88,11 +103,15 @@ move_settles code h x e it =
       clear = it;
     }
 
+change_return : (site : Site) (x : Core) → read x 14 ≡ record { bits = 0x7FFFFFFF; mark = Return 0x7FFFFFFF } → change (Jump (record { m = 14 })) site x ≡ Ok (record unchanged { exit = Jumps 0x7FFFFFFE })
+unfolding change
+change_return site x e = ap (λ (w : Word). jump_to w.bits unchanged) e
+
 -- The return ends the call, and changes nothing else.
 pub return_leaps : (code : CodeBytes) (a : ℕ) (x : Core) → IsReady x → Leaps code (narrow return_half) a x exit x
 return_leaps code a x r =
-    let e : jump_to (read x 14).bits unchanged ≡ Ok (record unchanged { exit = Jumps 0x7FFFFFFE }) = ap (λ (w : Word). jump_to w.bits unchanged) r.lr in
-    does code (narrow return_half) a x (Jump (record { m = 14 })) (record unchanged { exit = Jumps 0x7FFFFFFE }) r.clear refl e
+    does code (narrow return_half) a x (Jump (record { m = 14 })) (record unchanged { exit = Jumps 0x7FFFFFFE }) r.clear decode_return
+    (change_return (record { code = code; address = a; width = 2 }) x r.lr)
     ∙ ap (λ y. Ok (at exit y)) (it_stays x r.clear)
 
 -- what moves keep

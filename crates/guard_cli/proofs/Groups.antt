@@ -2,7 +2,8 @@
 use Rattle.std.proofs.Common.{◌≡◌, ◌≢◌, ℕ, zero, suc, ◌+◌, ◌<◌, ◌≤◌, ◌⊎◌, inl, inr, ⊎_elim, Bool, true, false, List, Some, Result, Ok, Err, refl, sym, ap, ◌∙◌, arith}
 use Rattle.std.proofs.lemmas.Bool.{cases_eq}
 use Rattle.thumb_table.specs.Parts.{CodeBytes}
-use Rattle.thumb_table.specs.States.{Core, State, at, it_after}
+use Rattle.thumb_instr.specs.Blocks.{it_after}
+use Rattle.thumb_table.specs.States.{Core, State, at}
 use Rattle.thumb_table.specs.declared.faults.FaultKind.{FaultKind}
 use Rattle.thumb_table.specs.Steps.{Fetched, fetch, step_of, move}
 use Rattle.thumb_table.specs.Schedules.{IsLegal, is_in, go_on, run, exit, Returns}

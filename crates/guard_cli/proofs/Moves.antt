@@ -31,7 +31,7 @@ pub length-code : (halves : List ℕ) → length (code_bytes halves) ≡ 2 * len
 length-code [] = refl
 length-code (h ∷ hs) = omega (arith, length-code hs)
 
-move_byte : (h : ℕ) → IsMove h → eqb (h / 256 % 256 / 8) 4 ≡ true
+pub move_byte : (h : ℕ) → IsMove h → eqb (h / 256 % 256 / 8) 4 ≡ true
 move_byte h move = eq-eqb (h / 256 % 256 / 8) 4 (omega arith)
 
 moves_pass : (hs : List ℕ) → All IsMove hs → are_moves (code_bytes hs) ≡ true
@@ -39,13 +39,13 @@ moves_pass [] each = refl
 moves_pass (h ∷ hs) each = both _ _ (move_byte h (each 0 0 (omega arith))) (moves_pass hs (λ k d l. each (suc k) d (omega arith)))
 
 -- a halfword's two bytes
-low_byte : (low high : ℕ) → low < 256 → high < 256 → (low + 256 * high) % 256 ≡ low
+pub low_byte : (low high : ℕ) → low < 256 → high < 256 → (low + 256 * high) % 256 ≡ low
 low_byte low high l h = omega arith
 
-high_byte : (low high : ℕ) → low < 256 → high < 256 → (low + 256 * high) / 256 % 256 ≡ high
+pub high_byte : (low high : ℕ) → low < 256 → high < 256 → (low + 256 * high) / 256 % 256 ≡ high
 high_byte low high l h = omega arith
 
-is_move : (low high : ℕ) → low < 256 → high / 8 ≡ 4 → IsMove (low + 256 * high)
+pub is_move : (low high : ℕ) → low < 256 → high / 8 ≡ 4 → IsMove (low + 256 * high)
 is_move low high l h = omega arith
 
 -- bytes that pass are those of moves

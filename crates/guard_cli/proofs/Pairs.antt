@@ -4,7 +4,11 @@ use Rattle.std.specs.Prelude.{All, codes}
 use Rattle.std.specs.List.{flat_map}
 use Rattle.std.proofs.lemmas.List.{length-map, get_or-map}
 use Rattle.std.proofs.lemmas.List.Elements.{All-map}
-use Rattle.guard_cli.specs.Words.{Pair, IsFileName, IsHarden, IsCommand, names_of}
+use Rattle.guard_cli.specs.Words.{Pair, IsFileName, IsHarden, names_of}
+
+-- words that are `harden` with pairs
+abbrev pub IsSomeHarden : List (List ℕ) → Type 0
+IsSomeHarden words = (pairs : List Pair) × IsHarden words pairs
 
 -- `All`, element by element
 all_cons : {X : Type 0} (P : X → Type 0) (x : X) (xs : List X) → P x → All P xs → All P (x ∷ xs)
@@ -87,7 +91,7 @@ same_harden words ps qs a b =
     same_pairs ps qs l
 
 -- `harden` and names by pairs are a command.
-pub harden_of : (n : ℕ) (names : List (List ℕ)) → length names ≡ 2 * n → 1 ≤ n → n ≤ 16 → All IsFileName names → IsCommand (codes "harden" ∷ names)
+pub harden_of : (n : ℕ) (names : List (List ℕ)) → length names ≡ 2 * n → 1 ≤ n → n ≤ 16 → All IsFileName names → IsSomeHarden (codes "harden" ∷ names)
 harden_of n names e low high a =
     let found = pairs_of n names e a in
     let h = found.1 in
@@ -102,7 +106,7 @@ pub record IsNamed (word : List ℕ) (names : List (List ℕ)) (n : ℕ) : Type 
   pub few : n ≤ 16
   pub each : All IsFileName names
 
-pub named_of : (word : List ℕ) (names : List (List ℕ)) → IsCommand (word ∷ names) → (n : ℕ) × IsNamed word names n
+pub named_of : (word : List ℕ) (names : List (List ℕ)) → IsSomeHarden (word ∷ names) → (n : ℕ) × IsNamed word names n
 named_of word names (pairs, h) =
     let e = h.words_are in
     let w : word ≡ codes "harden" = cc in
@@ -110,11 +114,11 @@ named_of word names (pairs, h) =
     let facts = names_of_pairs pairs h.inputs h.outputs in
     (length pairs, record { word_is = w; count = ap length l ∙ facts.0; some = h.some; few = h.few; each = subst (λ x. All IsFileName x) (sym l) facts.1 })
 
-pub nothing_is_no_command : IsCommand [] → ⊥
+pub nothing_is_no_command : IsSomeHarden [] → ⊥
 nothing_is_no_command (pairs, h) = let e = h.words_are in cc
 
 -- A command has three words at least.
-pub command_length : (words : List (List ℕ)) → IsCommand words → 3 ≤ length words
+pub command_length : (words : List (List ℕ)) → IsSomeHarden words → 3 ≤ length words
 command_length words (pairs, h) =
     let e = ap length h.words_are in
     let n = (names_of_pairs pairs h.inputs h.outputs).0 in
@@ -122,13 +126,13 @@ command_length words (pairs, h) =
     omega arith
 
 -- With more words, it has two pairs at least, of which the first begins with the second word.
-pub several_of : (words : List (List ℕ)) (input : List ℕ) → IsCommand words → 3 < length words → get_or words 1 input ≡ input → (first second : Pair) × (rest : List Pair) × IsHarden words (first ∷ second ∷ rest) × (input ≡ first.input)
+pub several_of : (words : List (List ℕ)) (input : List ℕ) → IsSomeHarden words → 3 < length words → get_or words 1 input ≡ input → (first second : Pair) × (rest : List Pair) × IsHarden words (first ∷ second ∷ rest) × (input ≡ first.input)
 several_of words input ([], h) long e = absurd (let s = h.some in omega arith)
 several_of words input (p ∷ [], h) long e = absurd (let n = ap length h.words_are in omega arith)
 several_of words input (p ∷ q ∷ rest, h) long e = (p, q, rest, h, sym e ∙ ap (λ l. get_or l 1 input) h.words_are)
 
 -- With three words, it has one pair.
-pub one_of : (words : List (List ℕ)) (input output : List ℕ) → IsCommand words → length words ≤ 3 → get_or words 1 input ≡ input → get_or words 2 output ≡ output → IsHarden words (record { input = input; output = output } ∷ [])
+pub one_of : (words : List (List ℕ)) (input output : List ℕ) → IsSomeHarden words → length words ≤ 3 → get_or words 1 input ≡ input → get_or words 2 output ≡ output → IsHarden words (record { input = input; output = output } ∷ [])
 one_of words input output ([], h) short i o = absurd (let s = h.some in omega arith)
 one_of words input output (p ∷ q ∷ rest, h) short i o = absurd (let n = ap length h.words_are in omega arith)
 one_of words input output (p ∷ [], h) short i o =
@@ -137,15 +141,15 @@ one_of words input output (p ∷ [], h) short i o =
     subst (λ q. IsHarden words (q ∷ [])) (same_pair p (record { input = input; output = output }) pi po) h
 
 -- the names of texts
-all_unmap : {X : Type 0} (P : List ℕ → Type 0) (f : X → List ℕ) (xs : List X) → All P (map f xs) → All (λ x. P (f x)) xs
+pub all_unmap : {X : Type 0} (P : List ℕ → Type 0) (f : X → List ℕ) (xs : List X) → All P (map f xs) → All (λ x. P (f x)) xs
 all_unmap P f [] h = all_none (λ x. P (f x))
 all_unmap P f (x ∷ xs) h = all_cons (λ y. P (f y)) x xs (all_head P (f x) (map f xs) h) (all_unmap P f xs (all_tail P (f x) (map f xs) h))
 
 -- names of texts are those of a command where there are as many as that
-pub texts_are : {X : Type 0} (f : X → List ℕ) (xs : List X) → length xs % 2 ≡ 0 → 1 ≤ length xs / 2 → length xs / 2 ≤ 16 → All (λ x. IsFileName (f x)) xs → IsCommand (codes "harden" ∷ map f xs)
+pub texts_are : {X : Type 0} (f : X → List ℕ) (xs : List X) → length xs % 2 ≡ 0 → 1 ≤ length xs / 2 → length xs / 2 ≤ 16 → All (λ x. IsFileName (f x)) xs → IsSomeHarden (codes "harden" ∷ map f xs)
 texts_are f xs even low high a = harden_of (length xs / 2) (map f xs) (omega (arith, length-map xs f)) low high (All-map IsFileName f xs a)
 
-pub texts_of : {X : Type 0} (f : X → List ℕ) (xs : List X) → IsCommand (codes "harden" ∷ map f xs) → (n : ℕ) × (length xs ≡ 2 * n) × (1 ≤ n) × (n ≤ 16) × All (λ x. IsFileName (f x)) xs
+pub texts_of : {X : Type 0} (f : X → List ℕ) (xs : List X) → IsSomeHarden (codes "harden" ∷ map f xs) → (n : ℕ) × (length xs ≡ 2 * n) × (1 ≤ n) × (n ≤ 16) × All (λ x. IsFileName (f x)) xs
 texts_of f xs h =
     let found = named_of (codes "harden") (map f xs) h in
     let named = found.1 in

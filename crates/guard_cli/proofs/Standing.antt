@@ -11,7 +11,8 @@ use Rattle.elf_model.specs.Fields.{half}
 use Rattle.guard_cli.specs.FirstForm.{code_bytes}
 use Rattle.thumb_instr.specs.Rows.{is_wide}
 use Rattle.thumb_table.specs.Parts.{CodeBytes}
-use Rattle.thumb_table.specs.Steps.{Fetched, fetch, half_of}
+use Rattle.thumb_table.specs.Effects.{half_of}
+use Rattle.thumb_table.specs.Steps.{Fetched, fetch}
 use Rattle.guard_cli.specs.Output.{doubled}
 use Rattle.guard_cli.proofs.Sequences.{Stands, copied}
 

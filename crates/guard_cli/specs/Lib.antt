@@ -3,7 +3,13 @@ pub mod FirstCode
 pub mod Words
 pub mod Output
 pub mod Texts
+pub mod Inputs
 pub mod Runs
+pub mod Linkable
+pub mod LinkRuns
+pub mod MachineRuns
+pub mod LinkSteps
+pub mod Loads
 pub mod Commands
 pub mod Statuses
 pub mod HardenedFile
@@ -11,3 +17,7 @@ pub mod Outcomes
 pub mod AddressMaps
 pub mod Hardened
 pub mod Promise
+pub mod Arranged
+pub mod Listings
+pub mod ListRuns
+pub mod ListingSteps

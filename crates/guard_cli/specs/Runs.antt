@@ -1,17 +1,16 @@
 -- What comes of a command: each ending, with its cause and with what it leaves.
-use Rattle.std.specs.Prelude.{◌≡◌, ◌≢◌, ◌<◌, ◌≤◌, ◌⊎◌, ℕ, ◌*◌, Bool, List, [], ◌∷◌, ◌++◌, length, Option, Some, None, IsTrue}
+use Rattle.std.specs.Prelude.{◌≡◌, ◌≢◌, ◌≤◌, ◌⊎◌, ℕ, ◌*◌, Bool, List, [], ◌∷◌, ◌++◌, length, Option, Some, None, IsTrue}
 use Rattle.guard_io.specs.Outside.{Rose, IsPartlySaved, IsPartlyPut}
-use Rattle.elf_model.specs.declared.refusals.Refusal.TheVariants.{TooLong, NotYet}
+use Rattle.elf_model.specs.declared.refusals.Refusal.TheVariants.{NotYet}
 use Rattle.elf_model.specs.declared.refusals.Spot.{Spot}
 use Rattle.elf_model.specs.declared.refusals.TheConstants.Limit.{INPUT}
-use Rattle.elf_model.specs.Objects.{ObjectParts}
-use Rattle.elf_model.specs.Files.{StandsFor}
 use Rattle.elf_model.specs.Canonical.{canonical}
-use Rattle.elf_read.specs.Faults.{IsFirstFault, IsFaultless, dropped_count}
+use Rattle.elf_read.specs.Faults.{dropped_count}
 use Rattle.guard_cli.specs.FirstForm.{IsFirstCode, IsFirstObject, first_object, at_start}
 use Rattle.guard_cli.specs.declared.endings.Ending.{Ending}
-use Rattle.guard_cli.specs.declared.endings.Ending.TheVariants.{Done, Refused, Usage, ReadFault, WriteFault, PrintFault, NoMemory}
+use Rattle.guard_cli.specs.declared.endings.Ending.TheVariants.{Done, Refused, Usage, ReadFault, WriteFault, PrintFault, NoMemory, Stopped}
 use Rattle.guard_cli.specs.Words.{Pair}
+use Rattle.guard_cli.specs.Inputs.{IsReadAs, IsInputRefusal}
 use Rattle.guard_cli.specs.Output.{hardened_object}
 use Rattle.guard_cli.specs.Promise.{IsPick, AreHardened}
 use Rattle.guard_cli.specs.Texts.{Tally, greatest_factor, report, usage_line, no_memory_line, read_fault_line, write_fault_line, refused_line}
@@ -71,37 +70,32 @@ IsCutOff text old new = Rose old.faults new.faults × (IsTrue old.told → IsPar
 abbrev pub IsToldOf : List ℕ → Screen → Screen → Type 0
 IsToldOf text old new = IsPut text old new ⊎ IsCutOff text old new ⊎ IsPut [] old new
 
--- the limit of a file of `harden`
-abbrev pub file_limit : ℕ
-file_limit = 1048576
+-- An input was refused for a cause that its file gives, and nothing was touched.
+pub record IsRefusedFor (cause : List ℕ → Type 0) (input : List ℕ) (old new : Files) (screen after : Screen) (spot : Spot) : Type 0 where
+  pub given : IsTrue old.told → (file : List ℕ) × (old.content input ≡ Some file) × cause file
+  pub untouched : Untouched old new
+  pub said : IsToldOf (refused_line input spot) screen after
 
--- A file that is not handled yet: nothing is wrong with it, and its object is not of the first form.
-pub record IsUnhandled (file : List ℕ) : Type 0 where
-  pub faultless : IsFaultless file INPUT
-  pub object : ObjectParts
-  pub stands : StandsFor file object
-  pub other_form : IsFirstObject object → ⊥
+-- An input could not be read. A steady shelf fails so only for want of the file.
+pub record IsUnread (input : List ℕ) (old new : Files) (screen after : Screen) : Type 0 where
+  pub cause : Rose old.load_faults new.load_faults
+  pub absent : IsTrue old.steady → old.content input ≡ None
+  pub untouched : Untouched old new
+  pub said : IsToldOf (read_fault_line input) screen after
 
--- When the one input is refused: it is longer than the limit, or else it has a fault, of which the first
--- counts, or else it is not handled yet.
-abbrev pub IsInputRefusal : List ℕ → Spot → Type 0
-IsInputRefusal file spot =
-    ((spot ≡ at_start TooLong) × (file_limit < length file))
-    ⊎ ((length file ≤ file_limit) × (IsFirstFault file INPUT spot ⊎ ((spot ≡ at_start NotYet) × IsUnhandled file)))
+-- An output could not be written: it may hold a part.
+pub record IsUnsavedFor (name bytes : List ℕ) (old new : Files) (screen after : Screen) : Type 0 where
+  pub cause : Rose old.save_faults new.save_faults
+  pub saved : IsHalfSaved name bytes old new
+  pub said : IsToldOf (write_fault_line name) screen after
 
--- a file that is handled: nothing is wrong with it, and its object is of the first form
-pub record IsHandled (file : List ℕ) : Type 0 where
-  pub short : length file ≤ file_limit
-  pub faultless : IsFaultless file INPUT
-  pub object : ObjectParts
-  pub stands : StandsFor file object
-  pub first_form : IsFirstObject object
+-- When the one input of `harden` is refused.
+abbrev pub IsHardenRefusal : List ℕ → Spot → Type 0
+IsHardenRefusal file spot = IsInputRefusal INPUT IsFirstObject file spot
 
 -- the file of this code, of which so many sections are left out
 pub record IsFileOf (halves : List ℕ) (dropped : ℕ) (file : List ℕ) : Type 0 where
-  pub short : length file ≤ file_limit
-  pub faultless : IsFaultless file INPUT
-  pub stands : StandsFor file (first_object halves)
+  pub read : IsReadAs INPUT file (first_object halves)
   pub left_out : dropped ≡ dropped_count file
 
 -- the code that was read from an input, and how many sections were left out
@@ -137,25 +131,10 @@ pub record IsDone (p : Pair) (old new : Files) (screen after : Screen) (halves :
   pub hardened : IsTrue old.told → (picked : List Pair) → IsPick (p ∷ []) picked →
       AreHardened picked old.content new.content (greatest_factor (tally_of p halves dropped ∷ []))
 
--- The input was refused, and nothing was touched.
-pub record IsRefusedFor (p : Pair) (old new : Files) (screen after : Screen) (spot : Spot) : Type 0 where
-  pub cause : IsTrue old.told → (file : List ℕ) × (old.content p.input ≡ Some file) × IsInputRefusal file spot
-  pub untouched : Untouched old new
-  pub said : IsToldOf (refused_line p.input spot) screen after
-
--- The input could not be read. A steady shelf fails so only for want of the file.
-pub record IsUnread (p : Pair) (old new : Files) (screen after : Screen) : Type 0 where
-  pub cause : Rose old.load_faults new.load_faults
-  pub absent : IsTrue old.steady → old.content p.input ≡ None
-  pub untouched : Untouched old new
-  pub said : IsToldOf (read_fault_line p.input) screen after
-
 -- The output could not be written.
 pub record IsUnsaved (p : Pair) (old new : Files) (screen after : Screen) (halves : List ℕ) (dropped : ℕ) : Type 0 where
   pub read : IsRead p old halves dropped
-  pub cause : Rose old.save_faults new.save_faults
-  pub saved : IsHalfSaved p.output (output_of halves) old new
-  pub said : IsToldOf (write_fault_line p.output) screen after
+  pub unsaved : IsUnsavedFor p.output (output_of halves) old new screen after
 
 -- Everything was made and saved, and the report could not be written.
 pub record IsUnsaid (p : Pair) (old new : Files) (screen after : Screen) (halves : List ℕ) (dropped : ℕ) : Type 0 where
@@ -170,12 +149,13 @@ IsUntouchedOrSaved p old new = Untouched old new ⊎ ((halves : List ℕ) × (dr
 -- what each ending of `harden IN OUT` says
 abbrev pub EndsAs : Pair → Files → Files → Screen → Screen → Ending → Type 0
 EndsAs p old new screen after Done = (halves : List ℕ) × (dropped : ℕ) × IsDone p old new screen after halves dropped
-EndsAs p old new screen after (Refused spot) = IsRefusedFor p old new screen after spot
+EndsAs p old new screen after (Refused spot) = IsRefusedFor (λ file. IsHardenRefusal file spot) p.input old new screen after spot
 EndsAs p old new screen after Usage = ⊥
-EndsAs p old new screen after ReadFault = IsUnread p old new screen after
+EndsAs p old new screen after ReadFault = IsUnread p.input old new screen after
 EndsAs p old new screen after WriteFault = (halves : List ℕ) × (dropped : ℕ) × IsUnsaved p old new screen after halves dropped
 EndsAs p old new screen after PrintFault = (halves : List ℕ) × (dropped : ℕ) × IsUnsaid p old new screen after halves dropped
 EndsAs p old new screen after NoMemory = IsUntouchedOrSaved p old new × IsToldOf no_memory_line screen after
+EndsAs p old new screen after (Stopped outcome) = ⊥
 
 -- Counts of faults never fall. They rise only where the outside fails.
 pub record CountsGrow (old new : Files) (screen after : Screen) : Type 0 where
@@ -194,16 +174,16 @@ pub record IsCalm (old new : Files) (screen after : Screen) : Type 0 where
   pub saves : Rose old.save_faults new.save_faults → ⊥
   pub puts : Rose screen.faults after.faults → ⊥
 
--- Nothing but memory is in the way of an input of the first form.
+-- Nothing but memory is in the way.
 abbrev pub IsDoneOrNoMemory : Ending → Type 0
 IsDoneOrNoMemory ending = (ending ≡ Done) ⊎ (ending ≡ NoMemory)
 
--- Several pairs are refused before anything is loaded, by the first input.
-pub record IsRefusedAtOnce (p : Pair) (old new : Files) (screen after : Screen) (ending : Ending) : Type 0 where
+-- A command that is not handled yet is refused before anything is loaded, by its first input.
+pub record IsRefusedAtOnce (input : List ℕ) (old new : Files) (screen after : Screen) (ending : Ending) : Type 0 where
   pub ending_is : ending ≡ Refused (at_start NotYet)
   pub untouched : Untouched old new
   pub loads : new.load_faults ≡ old.load_faults
-  pub said : IsToldOf (refused_line p.input (at_start NotYet)) screen after
+  pub said : IsToldOf (refused_line input (at_start NotYet)) screen after
 
 -- Words that are no command are answered before anything is loaded.
 pub record IsMisused (old new : Files) (screen after : Screen) : Type 0 where

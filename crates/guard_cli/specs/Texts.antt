@@ -1,11 +1,13 @@
 -- What is printed. Every line ends with a line feed.
-use Rattle.std.specs.Prelude.{ℕ, max, Bool, true, false, List, [], ◌∷◌, ◌++◌, map, codes, fold}
-use Rattle.std.specs.Fmt.{decimal}
+use Rattle.std.specs.Prelude.{ℕ, ◌-◌, max, Bool, true, false, List, [], ◌∷◌, ◌++◌, length, map, codes, fold, replicate}
+use Rattle.std.specs.Fmt.{decimal, digits}
 use Rattle.std.specs.List.{flat_map}
 use Rattle.elf_model.specs.declared.refusals.Refusal.{Refusal}
 use Rattle.elf_model.specs.declared.refusals.Refusal.TheVariants.{LiveAtEntry, LiveAtReturn, NoScratch, OutOfReach, Undefined, Duplicate}
 use Rattle.elf_model.specs.declared.refusals.Spot.{Spot}
 use Rattle.elf_model.specs.Refusals.{number_of, name_of}
+use Rattle.thumb_table.specs.declared.faults.FaultKind.{FaultKind}
+use Rattle.thumb_table.specs.declared.faults.FaultKind.TheVariants.{Trap, BadAddress, Unaligned, BadStack, BadJump, BadFetch, BadCode}
 
 abbrev pub line : List ℕ → List ℕ
 line text = text ++ 10 ∷ []
@@ -65,3 +67,31 @@ greatest_factor tallies = fold max 1 (map (λ t. t.factor) tallies)
 -- a line for each output, and the greatest of the factors
 abbrev pub report : List Tally → List ℕ
 report tallies = flat_map tally_line tallies ++ line (codes "factor " ++ decimal (greatest_factor tallies))
+
+-- what is said of an image that was saved: the bytes of code and of data in it
+abbrev pub link_line : ℕ → ℕ → List ℕ
+link_line code memory = line (codes "linked " ++ decimal code ++ codes " bytes of code, " ++ decimal memory ++ codes " bytes of data")
+
+-- a word, in eight lower-case hexadecimal digits
+abbrev pub word_text : ℕ → List ℕ
+word_text n = codes "0x" ++ replicate (8 - length (digits 16 false n)) 48 ++ digits 16 false n
+
+abbrev pub fault_name : FaultKind → List ℕ
+fault_name Trap = codes "Trap"
+fault_name BadAddress = codes "BadAddress"
+fault_name Unaligned = codes "Unaligned"
+fault_name BadStack = codes "BadStack"
+fault_name BadJump = codes "BadJump"
+fault_name BadFetch = codes "BadFetch"
+fault_name (BadCode _) = codes "BadCode"
+
+-- what is said of a run: its steps, and r0 at the end, or where it stopped
+abbrev pub returned_line : ℕ → ℕ → Bool → List ℕ
+returned_line steps r0 ordinary =
+    line (codes "returned after " ++ decimal steps ++ codes " steps, r0 " ++ word_text r0 ++ codes ", ordinary " ++ yes_or_no ordinary)
+
+abbrev pub stopped_line : FaultKind → ℕ → ℕ → List ℕ
+stopped_line kind pc steps = line (codes "stopped " ++ fault_name kind ++ codes " at " ++ word_text pc ++ codes " after " ++ decimal steps ++ codes " steps")
+
+abbrev pub unfinished_line : ℕ → List ℕ
+unfinished_line steps = line (codes "unfinished after " ++ decimal steps ++ codes " steps")

@@ -1,16 +1,16 @@
 //! The steps of `harden` over files and output.
 
-ghost use Rattle.std.specs.Prelude.{◌≡◌, ◌≢◌, ◌≤◌, ℕ, List, [], IfOk, IsTrue, IsSome, string_bytes};
+ghost use Rattle.std.specs.Prelude.{◌≡◌, ◌≢◌, ◌≤◌, ℕ, List, IfOk, IsTrue, IsSome, string_bytes};
 ghost use Rattle.guard_io.specs.Outside.{IsLoaded};
-ghost use Rattle.guard_cli.specs.Words.{Pair};
-ghost use Rattle.guard_cli.specs.Runs.{files_seen, screen_seen, IsRead, IsToldOf, EndsAs, CountsGrow, CountsStay, output_of, report_of};
-ghost use Rattle.guard_cli.specs.Outcomes.{ReportEndsAs};
+ghost use Rattle.guard_cli.specs.Runs.{files_seen, screen_seen, IsToldOf, EndsAs, CountsGrow, CountsStay};
+ghost use Rattle.guard_cli.specs.Outcomes.{ReportEndsAs, SaveEndsAs};
 
 use crate::Ending;
-use crate::decisions::{Decided, decide};
-use crate::texts::{no_memory_text, read_fault_text, refused_text, write_fault_text};
+use crate::decisions::decide;
+use crate::loading::load_input;
+use crate::texts::{no_memory_text, refused_text, write_fault_text};
 use elf_model::Deny;
-use guard_io::{LoadErr, PutErr, SaveErr, Shelf, Sink};
+use guard_io::{PutErr, SaveErr, Shelf, Sink};
 use std::alloc::{AllocError, Global};
 
 /// How much of an input is loaded: one byte more than it may have.
@@ -35,16 +35,9 @@ pub(crate) fn harden_pair<S: Shelf, K: Sink>(
         IsTrue (S.steady shelf.old) → IsTrue (K.steady out.old) → IsSome (S.file shelf.old input.now) →
         CountsStay (files shelf.old) (files shelf.new) (screen out.old) (screen out.new) }
 {
-    match shelf.load(alloc, input, MOST) {
+    match load_input(alloc, input, MOST, shelf, out) {
         Ok(bytes) => harden_loaded(alloc, input, output, &bytes, shelf, out),
-        Err(LoadErr::Failed) => {
-            tell_made(out, read_fault_text(alloc, input));
-            Ending::ReadFault
-        }
-        Err(LoadErr::Memory) => {
-            tell(out, no_memory_text());
-            Ending::NoMemory
-        }
+        Err(ending) => ending,
     }
 }
 
@@ -71,7 +64,7 @@ fn harden_loaded<S: Shelf, K: Sink>(
         CountsStay (files shelf.old) (files shelf.new) (screen out.old) (screen out.new) }
 {
     match decide(alloc, output, bytes) {
-        Ok(made) => save_and_print(alloc, output, &made, shelf, out),
+        Ok(made) => save_and_print(alloc, output, &made.file, &made.report, shelf, out),
         Err(Deny::Refused(spot)) => {
             tell_made(out, refused_text(alloc, input, &spot));
             Ending::Refused(spot)
@@ -83,20 +76,18 @@ fn harden_loaded<S: Shelf, K: Sink>(
     }
 }
 
-/// Saves the output, and then prints the report.
-fn save_and_print<S: Shelf, K: Sink>(
+/// Saves an output, and then prints the report.
+pub(crate) fn save_and_print<S: Shelf, K: Sink>(
     alloc: Global,
     output: &str,
-    made: &Decided,
+    file: &[u8],
+    report: &str,
     shelf: &mut S,
     out: &mut K,
 ) -> Ending
     ensures one { let files = files_seen S.tells S.file S.steady S.load_faults S.save_faults in
         let screen = screen_seen K.tells K.written K.steady K.faults in
-        (p : Pair) (halves : List ℕ) (dropped : ℕ) → p.output ≡ output.now → IsRead p (files shelf.old) halves dropped →
-        made.now.file.items ≡ output_of halves → string_bytes made.now.report ≡ report_of (record { input = []; output = output.now }) halves dropped →
-        EndsAs p (files shelf.old) (files shelf.new) (screen out.old) (screen out.new) result }
-    ensures was_read { result ≢ Ending.ReadFault }
+        SaveEndsAs output.now file.now report.now (files shelf.old) (files shelf.new) (screen out.old) (screen out.new) result }
     ensures counts { let files = files_seen S.tells S.file S.steady S.load_faults S.save_faults in
         let screen = screen_seen K.tells K.written K.steady K.faults in
         CountsGrow (files shelf.old) (files shelf.new) (screen out.old) (screen out.new) }
@@ -105,8 +96,8 @@ fn save_and_print<S: Shelf, K: Sink>(
         IsTrue (S.steady shelf.old) → IsTrue (K.steady out.old) →
         CountsStay (files shelf.old) (files shelf.new) (screen out.old) (screen out.new) }
 {
-    match shelf.save(output, &made.file) {
-        Ok(()) => print(out, &made.report),
+    match shelf.save(output, file) {
+        Ok(()) => print(out, report),
         Err(SaveErr::Failed) => {
             tell_made(out, write_fault_text(alloc, output));
             Ending::WriteFault
@@ -119,13 +110,23 @@ fn save_and_print<S: Shelf, K: Sink>(
 }
 
 /// Prints the report on outputs that are saved.
-fn print<K: Sink>(out: &mut K, report: &str) -> Ending
+pub(crate) fn print<K: Sink>(out: &mut K, report: &str) -> Ending
     ensures ending { let screen = screen_seen K.tells K.written K.steady K.faults in
         ReportEndsAs report.now (screen out.old) (screen out.new) result }
     ensures count { K.faults out.old ≤ K.faults out.new }
     ensures calm { IsTrue (K.steady out.old) → K.faults out.new ≡ K.faults out.old }
 {
-    match out.put(report.as_bytes()) {
+    print_bytes(out, report.as_bytes())
+}
+
+/// Prints what a command has to say when it has done all else.
+pub(crate) fn print_bytes<K: Sink>(out: &mut K, report: &[u8]) -> Ending
+    ensures ending { let screen = screen_seen K.tells K.written K.steady K.faults in
+        ReportEndsAs report.now (screen out.old) (screen out.new) result }
+    ensures count { K.faults out.old ≤ K.faults out.new }
+    ensures calm { IsTrue (K.steady out.old) → K.faults out.new ≡ K.faults out.old }
+{
+    match out.put(report) {
         Ok(()) => Ending::Done,
         Err(PutErr::Failed) => Ending::PrintFault,
         Err(PutErr::Memory) => {

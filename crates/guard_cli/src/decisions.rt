@@ -2,8 +2,9 @@
 
 ghost use Rattle.std.specs.Prelude.{◌≡◌, ◌*◌, ◌≤◌, ℕ, List, [], length, IfOk, IfErr, string_bytes};
 ghost use Rattle.guard_cli.specs.FirstForm.{code_bytes, at_start};
-ghost use Rattle.guard_cli.specs.Runs.{output_of, report_of};
-ghost use Rattle.guard_cli.specs.Outcomes.{IsDecided, IsTurnedDown};
+ghost use Rattle.guard_cli.specs.Inputs.{IsTurnedDown};
+ghost use Rattle.guard_cli.specs.Runs.{IsHardenRefusal, output_of, report_of};
+ghost use Rattle.guard_cli.specs.Outcomes.{IsDecided};
 
 use crate::first::first_code;
 use crate::form::hardened_file;
@@ -22,7 +23,7 @@ pub(crate) struct Decided {
 /// The hardened file of an input and the report on it, or why there is none.
 pub(crate) fn decide(alloc: Global, output: &str, bytes: &[u8]) -> Result<Decided, Deny>
     ensures decided { IfOk result (λ made. (halves : List ℕ) × (dropped : ℕ) × IsDecided output.now bytes.now made.file.items (string_bytes made.report) halves dropped) }
-    ensures refused { IfErr result (IsTurnedDown bytes.now) }
+    ensures refused { IfErr result (IsTurnedDown (IsHardenRefusal bytes.now)) }
 {
     if bytes.len() > Limit::INPUT.file as usize {
         return Err(Deny::Refused(at_start(Refusal::TooLong)));

@@ -3,6 +3,7 @@
 ghost use Rattle.std.specs.Prelude.{◌≡◌};
 
 use elf_model::Spot;
+use skip_machine::Outcome;
 
 /// What came of a command.
 #[derive(Clone, Copy, Debug, PartialEq, Eq)]
@@ -21,6 +22,8 @@ pub enum Ending {
     PrintFault,
     /// Memory ran out.
     NoMemory,
+    /// A run faulted or used its steps.
+    Stopped(Outcome),
 }
 
 impl Ending {
@@ -36,6 +39,7 @@ impl Ending {
             Ending::Usage => 2,
             Ending::ReadFault | Ending::WriteFault | Ending::PrintFault => 3,
             Ending::NoMemory => 4,
+            Ending::Stopped(_) => 5,
         }
     }
 }

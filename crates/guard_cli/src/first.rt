@@ -55,7 +55,7 @@ fn are_moves(code: &[u8]) -> bool
 }
 
 /// Whether a section is as the first form has it, its bytes aside.
-fn is_text(section: &Section) -> bool
+pub(crate) fn is_text(section: &Section) -> bool
     ensures { result ≡ is_text section.now }
 {
     section.name.bytes() == b".text".as_slice()
@@ -86,7 +86,7 @@ fn are_symbols(symbols: &[Symbol], size: u32) -> bool
 }
 
 /// Whether this symbol says that the section begins with Thumb code.
-fn is_code_symbol(symbol: &Symbol) -> bool
+pub(crate) fn is_code_symbol(symbol: &Symbol) -> bool
     ensures { result ≡ is_code_symbol symbol.now }
 {
     symbol.name.bytes() == b"$t".as_slice()
@@ -99,7 +99,7 @@ fn is_code_symbol(symbol: &Symbol) -> bool
 }
 
 /// Whether this symbol is the function, of this size.
-fn is_function_symbol(symbol: &Symbol, size: u32) -> bool
+pub(crate) fn is_function_symbol(symbol: &Symbol, size: u32) -> bool
     ensures { result ≡ is_function_symbol size symbol.now }
 {
     symbol.name.bytes() == b"f".as_slice()

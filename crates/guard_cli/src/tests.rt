@@ -6,7 +6,7 @@ use std::process::Abort;
 use std::test::Fail;
 
 /// The file of `movs r0, #5` and `bx lr`, made by the format's other tools.
-const PLAIN: [u8; 344] = [
+pub(crate) const PLAIN: [u8; 344] = [
     127, 69, 76, 70, 1, 1, 1, 0, 0, 0, 0, 0, 0, 0, 0, 0, 1, 0, 40, 0, 1, 0, 0, 0, 0, 0, 0, 0, 0, 0,
     0, 0, 144, 0, 0, 0, 0, 0, 0, 5, 52, 0, 0, 0, 0, 0, 40, 0, 5, 0, 4, 0, 5, 32, 112, 71, 0, 0, 0,
     0, 0, 0, 0, 0, 0, 0, 0, 0, 0, 0, 0, 0, 1, 0, 0, 0, 0, 0, 0, 0, 0, 0, 0, 0, 0, 0, 1, 0, 4, 0, 0,
@@ -22,7 +22,7 @@ const PLAIN: [u8; 344] = [
 ];
 
 /// The file of the same code with each instruction twice.
-const HARDENED: [u8; 436] = [
+pub(crate) const HARDENED: [u8; 436] = [
     127, 69, 76, 70, 1, 1, 1, 0, 0, 0, 0, 0, 0, 0, 0, 0, 1, 0, 40, 0, 1, 0, 0, 0, 0, 0, 0, 0, 0, 0,
     0, 0, 196, 0, 0, 0, 0, 0, 0, 5, 52, 0, 0, 0, 0, 0, 40, 0, 6, 0, 5, 0, 5, 32, 5, 32, 112, 71,
     112, 71, 0, 0, 0, 0, 0, 0, 0, 0, 0, 0, 0, 0, 0, 0, 0, 0, 0, 0, 0, 0, 2, 0, 0, 0, 4, 0, 0, 0, 0,
@@ -64,7 +64,7 @@ const REPORT: &str =
 const REPORT_OF_ONE_DROPPED: &str =
     "b.o: 1 functions, 2 -> 4 instructions, 4 -> 8 bytes, 1 dropped, factor 2\nfactor 2\n";
 
-const USAGE: &str = "usage: skipguard harden, link, run, list or make\n";
+pub(crate) const USAGE: &str = "usage: skipguard harden, link, run, list or make\n";
 
 const SIXTEEN_PAIRS: &str =
     "harden a.o b.o a b a b a b a b a b a b a b a b a b a b a b a b a b a b a b";
@@ -84,7 +84,7 @@ struct Row<'a> {
     output: Option<&'a [u8]>,
 }
 
-fn words_of(alloc: Global, line: &str) -> Result<Vec<String>, AllocError> {
+pub(crate) fn words_of(alloc: Global, line: &str) -> Result<Vec<String>, AllocError> {
     let mut words = Vec::new(alloc);
     for word in line.split(' ') {
         if !word.is_empty() {

@@ -1,11 +1,12 @@
 //! What is printed.
 
 ghost use Rattle.std.specs.Prelude.{◌≡◌, ◌∷◌, [], IfOk, string_bytes};
-ghost use Rattle.guard_cli.specs.Texts.{usage_line, no_memory_line, read_fault_line, write_fault_line, refused_line, details, yes_or_no, tally_line, report};
+ghost use Rattle.guard_cli.specs.Texts.{usage_line, no_memory_line, read_fault_line, write_fault_line, refused_line, details, yes_or_no, tally_line, report, link_line, returned_line, stopped_line, unfinished_line, word_text, fault_name};
 ghost use Rattle.guard_cli.specs.Outcomes.{tally_with};
 
 use elf_model::{Refusal, Spot};
 use std::alloc::{AllocError, Global};
+use thumb_table::FaultKind;
 
 /// What is said of words that are no command.
 pub(crate) fn usage_text() -> &'static str
@@ -112,4 +113,68 @@ fn tally_text(alloc: Global, output: &str, counts: &Counts) -> Result<String, Al
     format!(in alloc;
         "{output}: {functions} functions, {before} -> {after} instructions, {old_bytes} -> {new_bytes} bytes, {dropped} dropped, factor {factor}\n"
     )
+}
+
+/// The line of an image that was saved.
+pub(crate) fn link_text(alloc: Global, code: u64, data: u64) -> Result<String, AllocError>
+    ensures { IfOk result (λ text. string_bytes text ≡ link_line code «data») }
+{
+    format!(in alloc; "linked {code} bytes of code, {data} bytes of data\n")
+}
+
+/// The line of a run that returned.
+pub(crate) fn returned_text(
+    alloc: Global,
+    steps: u64,
+    r0: u32,
+    ordinary: bool,
+) -> Result<String, AllocError>
+    ensures { IfOk result (λ text. string_bytes text ≡ returned_line steps r0 ordinary) }
+{
+    let r0 = word_text(alloc, r0)?;
+    let ordinary = answer_text(ordinary);
+    format!(in alloc; "returned after {steps} steps, r0 {r0}, ordinary {ordinary}\n")
+}
+
+/// The line of a run whose step faulted.
+pub(crate) fn stopped_text(
+    alloc: Global,
+    kind: FaultKind,
+    pc: u32,
+    steps: u64,
+) -> Result<String, AllocError>
+    ensures { IfOk result (λ text. string_bytes text ≡ stopped_line kind pc steps) }
+{
+    let name = fault_text(kind);
+    let place = word_text(alloc, pc)?;
+    format!(in alloc; "stopped {name} at {place} after {steps} steps\n")
+}
+
+/// The line of a run that used its steps.
+pub(crate) fn unfinished_text(alloc: Global, steps: u64) -> Result<String, AllocError>
+    ensures { IfOk result (λ text. string_bytes text ≡ unfinished_line steps) }
+{
+    format!(in alloc; "unfinished after {steps} steps\n")
+}
+
+/// A word, in eight hexadecimal digits.
+fn word_text(alloc: Global, n: u32) -> Result<String, AllocError>
+    ensures { IfOk result (λ text. string_bytes text ≡ word_text n) }
+{
+    format!(in alloc; "0x{n:08x}")
+}
+
+/// The name of a fault.
+fn fault_text(kind: FaultKind) -> &'static str
+    ensures { result.now ≡ fault_name kind }
+{
+    match kind {
+        FaultKind::Trap => "Trap",
+        FaultKind::BadAddress => "BadAddress",
+        FaultKind::Unaligned => "Unaligned",
+        FaultKind::BadStack => "BadStack",
+        FaultKind::BadJump => "BadJump",
+        FaultKind::BadFetch => "BadFetch",
+        FaultKind::BadCode(_) => "BadCode",
+    }
 }

@@ -1,0 +1,42 @@
+-- The definitions of `link` and `run`, on small objects.
+use Rattle.std.proofs.Common.{◌≡◌, [], ◌∷◌, true, inl, inr, refl, codes, lit≤}
+use Rattle.std.specs.Prelude.{All}
+use Rattle.std.proofs.lemmas.List.Elements.{All-cons, All-nil}
+use Rattle.std.specs.Fmt.{digits}
+use Rattle.thumb_table.specs.declared.faults.FaultKind.TheVariants.{BadFetch}
+use Rattle.elf_model.specs.Objects.{is_code}
+use Rattle.thumb_table.specs.Images.{is_data}
+use Rattle.guard_cli.specs.Texts.{line, link_line, returned_line, stopped_line, unfinished_line, word_text}
+use Rattle.guard_cli.specs.Linkable.{IsLinkable}
+use Rattle.guard_cli.specs.FirstForm.{first_object}
+use Rattle.guard_cli.specs.Output.{hardened_object}
+use Rattle.guard_cli.specs.LinkRuns.{bytes_of}
+
+word_is : word_text 0x8004 ≡ codes "0x00008004"
+unfolding digits
+word_is = refl
+
+linked : link_line 8 0 ≡ line (codes "linked 8 bytes of code, 0 bytes of data")
+unfolding digits
+linked = refl
+
+returned : returned_line 3 5 true ≡ line (codes "returned after 3 steps, r0 0x00000005, ordinary yes")
+unfolding digits
+returned = refl
+
+stopped : stopped_line BadFetch 0x8004 2 ≡ line (codes "stopped BadFetch at 0x00008004 after 2 steps")
+unfolding digits
+stopped = refl
+
+unfinished : unfinished_line 2 ≡ line (codes "unfinished after 2 steps")
+unfolding digits
+unfinished = refl
+
+plain_is_linkable : IsLinkable (first_object (0x2005 ∷ 0x4770 ∷ []))
+plain_is_linkable = record { relocs = refl }
+
+code_of_hardened : bytes_of is_code (hardened_object (0x2005 ∷ 0x4770 ∷ [])).sections ≡ 8
+code_of_hardened = refl
+
+data_of_hardened : bytes_of is_data (hardened_object (0x2005 ∷ 0x4770 ∷ [])).sections ≡ 0
+data_of_hardened = refl

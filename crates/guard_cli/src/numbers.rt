@@ -1,0 +1,78 @@
+//! Numbers on a command line.
+
+ghost use Rattle.std.specs.Prelude.{◌≡◌, ◌<◌, ◌≤◌, ◌^◌, ◌++◌, ◌↔◌, ℕ, IsTrue, All, MatchOption, codes};
+ghost use Rattle.std.specs.Fmt.{decimal};
+ghost use Rattle.guard_cli.specs.Words.{IsHexDigit, IsHexadecimal, IsNumber};
+ghost use Rattle.guard_cli.specs.Arranged.{IsPlain};
+
+/// The number below 2^32 that a text is.
+pub(crate) fn number_of(text: &str) -> Option<u32>
+    ensures { MatchOption result ((n : ℕ) → IsNumber text.now n → ⊥) (λ n. IsNumber text.now n) }
+{
+    match text.strip_prefix("0x") {
+        Some(digits) => hexadecimal_of(digits),
+        None => match decimal_of(text) {
+            Some(n) => small(n),
+            None => None,
+        },
+    }
+}
+
+/// A number, if it is below 2^32.
+fn small(n: u64) -> Option<u32>
+    ensures { MatchOption result (2 ^ 32 ≤ n) (λ m. (m ≡ n) × (m < 2 ^ 32)) }
+{
+    if n < 0x1_0000_0000 {
+        Some(n as u32)
+    } else {
+        None
+    }
+}
+
+/// The number below 2^64 whose decimal a text is.
+pub(crate) fn decimal_of(text: &str) -> Option<u64>
+    ensures { MatchOption result ((n : ℕ) → n < 2 ^ 64 → text.now ≡ decimal n → ⊥) (λ n. text.now ≡ decimal n) }
+{
+    if !is_plain(text.as_bytes()) {
+        return None;
+    }
+    match text.parse::<u64>() {
+        Ok(n) => Some(n),
+        Err(_) => None,
+    }
+}
+
+/// Whether a text begins neither with a sign nor with a zero before other digits.
+fn is_plain(bytes: &[u8]) -> bool
+    ensures { IsTrue result ↔ IsPlain bytes.now }
+{
+    match bytes.first() {
+        None => true,
+        Some(first) => *first != b'+' && (*first != b'0' || bytes.len() == 1),
+    }
+}
+
+/// The number that one to eight hexadecimal digits behind `0x` are.
+fn hexadecimal_of(digits: &str) -> Option<u32>
+    ensures { MatchOption result ((n : ℕ) → IsHexadecimal (codes "0x" ++ digits.now) n → ⊥) (λ n. IsHexadecimal (codes "0x" ++ digits.now) n) }
+{
+    if digits.len() > 8 || !are_hex_digits(digits.as_bytes()) {
+        return None;
+    }
+    match u32::from_str_radix(digits, 16) {
+        Ok(n) => Some(n),
+        Err(_) => None,
+    }
+}
+
+fn are_hex_digits(bytes: &[u8]) -> bool
+    ensures { IsTrue result ↔ All IsHexDigit bytes.now }
+{
+    bytes.iter().all(is_hex_digit)
+}
+
+fn is_hex_digit(byte: &u8) -> bool
+    ensures { IsTrue result ↔ IsHexDigit byte.now }
+{
+    matches!(*byte, b'0'..=b'9' | b'a'..=b'f')
+}
