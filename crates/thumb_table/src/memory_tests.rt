@@ -219,15 +219,15 @@ fn moves_addresses(rt: HostRuntime) -> Result<(), Fail> {
     let entry = Word::entry(0x8001);
     let literal = Literal::new(reg(0), true, 0).map(Instr::Literal);
     let top = Half::new(true, reg(0), 0).map(Instr::Half);
-    for (i, pc, old, ordinary, word) in [
-        (literal, 0x8000, Word::plain(7), true, entry),
-        (literal, 0x8002, Word::plain(7), true, entry),
-        (top, 0x8004, Word::low(0x8001), true, entry),
-        (top, 0x8004, Word::plain(0x8001), false, Word::plain(0x8001)),
-        (top, 0x8000, Word::plain(0x7_0001), true, Word::plain(1)),
+    for (i, step, old, ordinary, word) in [
+        (literal, 0u8, Word::plain(7), true, entry),
+        (literal, 2, Word::plain(7), true, entry),
+        (top, 4, Word::low(0x8001), true, entry),
+        (top, 4, Word::plain(0x8001), false, Word::plain(0x8001)),
+        (top, 0u8, Word::plain(0x7_0001), true, Word::plain(1)),
     ] {
         let mut m = memory(rt.alloc())?;
-        let mut s = registers(old, Word::plain(0), pc);
+        let mut s = registers(old, Word::plain(0), 0x8000 + u32::from(step));
         let i = i.ok_or("no instruction")?;
         assert_eq!(rt; carried(rt.alloc(), &i, &mut s, &mut m)?, Ok(ordinary));
         assert_eq!(rt; s.r[0], word);
