@@ -1,5 +1,5 @@
--- Elements of lists by their numbers.
-use Rattle.std.proofs.Common.{◌≡◌, ℕ, zero, suc, ◌+◌, Bool, true, List, [], ◌∷◌, ◌++◌, refl, sym, ap, ◌∙◌, subst, inl, inr, ◌⊎◌, arith, map, Option, Some, None}
+-- The elements of lists: whether they are there, and by which numbers.
+use Rattle.std.proofs.Common.{◌≡◌, ◌<◌, length, ℕ, zero, suc, ◌+◌, Bool, true, List, [], ◌∷◌, ◌++◌, refl, sym, ap, ◌∙◌, subst, inl, inr, ◌⊎◌, arith, map, Option, Some, None}
 use Rattle.std.specs.Prelude.{Contains, slice_get}
 use Rattle.std.specs.Option.{option_to_list}
 use Rattle.std.specs.List.{list_all}
@@ -34,6 +34,11 @@ map_contains f (z ∷ xs) x h =
       | inl e ↦ subst (λ (y : _). Contains (map f (z ∷ xs)) (f y)) e (contains_here (f z) (map f xs))
       | inr r ↦ contains_later (f z) (map f xs) (f x) (map_contains f xs x r)
     ]
+
+pub element_at : {X : Type 0} (xs : List X) (i : ℕ) → i < length xs → (x : X) × (slice_get xs i ≡ Some x)
+element_at [] i l = absurd (omega arith)
+element_at (x ∷ xs) zero l = (x, refl)
+element_at (x ∷ xs) (suc i) l = element_at xs i (omega arith)
 
 pub place_of : {X : Type 0} (xs : List X) (x : X) → Contains xs x → (i : ℕ) × (slice_get xs i ≡ Some x)
 place_of xs x (i, l, e) = (i, slice_get-get_or xs i x l ∙ ap (λ (y : _). Some y) e)

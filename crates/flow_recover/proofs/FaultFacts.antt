@@ -1,4 +1,4 @@
--- The spots are the places of faults.
+-- The spots of ranges are the places of their faults.
 use Rattle.std.proofs.Common.{◌≡◌, ℕ, ◌+◌, ◌%◌, Bool, true, false, cond, List, [], ◌∷◌, ◌++◌, refl, sym, ap, ◌∙◌, subst, inl, inr, arith, Option, Some, None}
 use Rattle.std.specs.Prelude.{Contains, slice_get, nat_lt, ◌==◌, ◌&&◌, is_some, is_none}
 use Rattle.std.specs.Option.{option_to_list}
@@ -21,7 +21,8 @@ use Rattle.flow_recover.specs.declared.spans.Span.{Span}
 use Rattle.flow_recover.specs.CodeRanges.{RangeFault}
 use Rattle.flow_recover.specs.CodeRanges.RangeFault.{no_mapping, arm_range, arm_function}
 use Rattle.flow_recover.specs.Spans.{kind_at}
-use Rattle.flow_recover.specs.Spots.{spot_of, unmapped_spot, unmapped_spots, is_arm, arm_spot, arm_spots, holds_code, function_spot_at, function_spot, function_spots}
+use Rattle.flow_recover.specs.Relocations.{holds_code}
+use Rattle.flow_recover.specs.Spots.{spot_of, unmapped_spot, unmapped_spots, is_arm, arm_spot, arm_spots, function_spot_at, function_spot, function_spots}
 use Rattle.flow_recover.proofs.Elements.{given_by, given_is, given_has, place_of, contains_at}
 use Rattle.flow_recover.proofs.KindFacts.{mapped_is}
 

@@ -3,6 +3,7 @@ use Rattle.std.proofs.Common.{◌≡◌, ◌<◌, ℕ, zero, suc, Bool, true, fa
 use Rattle.std.specs.Prelude.{◌&&◌, ◌||◌, is_some, slice_get}
 use Rattle.std.specs.Option.{option_or}
 use Rattle.std.specs.List.{list_any}
+use Rattle.std.proofs.Math.Bool.{and-true}
 use Rattle.std.proofs.lemmas.Bool.{cases_Bool, and_from, and_left, and_right, cond-true, cond-false, true≢false, false_from_ne_true}
 use Rattle.std.proofs.lemmas.Option.{none-some, same_Some}
 use Rattle.elf_model.specs.declared.objects.Symbol.{Symbol}
@@ -27,13 +28,9 @@ by_mapping : (j x : ℕ) (s : Symbol) → (is_mapping s && stands_at j x s.home 
 by_mapping j x s =
     elim (cases_Bool (stands_at j x s.home s.value)) [
       | inl y ↦
-          ap (λ (b : Bool). is_mapping s && b) y ∙ and_true (is_mapping s) ∙ mapping_is_some s ∙ ap (λ (k : Option RangeKind). is_some k) (sym (cond-true (stands_at j x s.home s.value) (kind_of s) None y))
+          ap (λ (b : Bool). is_mapping s && b) y ∙ and-true (is_mapping s) ∙ mapping_is_some s ∙ ap (λ (k : Option RangeKind). is_some k) (sym (cond-true (stands_at j x s.home s.value) (kind_of s) None y))
       | inr n ↦ and_right (is_mapping s) (stands_at j x s.home s.value) n ∙ ap (λ (k : Option RangeKind). is_some k) (sym (cond-false (stands_at j x s.home s.value) (kind_of s) None n))
     ]
-  where
-    and_true : (b : Bool) → (b && true) ≡ b
-    and_true true = refl
-    and_true false = refl
 
 is_none_from : (o : Option RangeKind) → is_some o ≡ false → o ≡ None
 is_none_from None h = refl

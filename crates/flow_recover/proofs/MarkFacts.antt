@@ -3,7 +3,6 @@ use Rattle.std.proofs.Common.{◌≡◌, ◌<◌, ℕ, List, [], ◌∷◌, refl
 use Rattle.std.specs.Prelude.{All, Contains, ◌==◌}
 use Rattle.std.specs.declared.cmp.Ordering.{Ordering}
 use Rattle.std.specs.declared.cmp.Ordering.TheVariants.{Less, Equal, Greater}
-use Rattle.std.specs.Cmp.{IsTotalOrder, then_total, on_total, nat_cmp_total}
 use Rattle.std.specs.Ordering.{nat_cmp, ordering_then}
 use Rattle.std.specs.List.{AllByRecursion}
 use Rattle.std.specs.List.Sorted.{IsStrictlySortedBy}
@@ -19,7 +18,7 @@ use Rattle.elf_model.specs.declared.ranges.RangeKind.{RangeKind}
 use Rattle.flow_recover.specs.declared.spans.Mark.{Mark}
 use Rattle.flow_recover.specs.Spans.{place_cmp, kind_at, mark_of}
 use Rattle.flow_recover.proofs.Elements.{contains_map, map_contains, place_of, contains_at}
-use Rattle.flow_recover.proofs.PlaceFacts.{same_place}
+use Rattle.flow_recover.proofs.PlaceOrder.{same_place, place_total}
 
 abbrev pub Before : Mark → Mark → Type 0
 Before m q = (m.section < q.section) ⊎ ((m.section ≡ q.section) × (m.offset < q.offset))
@@ -28,7 +27,7 @@ abbrev pub Rising : List Mark → Type 0
 Rising [] = Unit {0}
 Rising (m ∷ rest) = All (Before m) rest × Rising rest
 
-less : (p q : ℕ × ℕ) → place_cmp p q ≡ Less → (p.0 < q.0) ⊎ ((p.0 ≡ q.0) × (p.1 < q.1))
+pub less : (p q : ℕ × ℕ) → place_cmp p q ≡ Less → (p.0 < q.0) ⊎ ((p.0 ≡ q.0) × (p.1 < q.1))
 less p q h = go (nat_cmp p.0 q.0) refl h
   where
     go : (c : Ordering) → nat_cmp p.0 q.0 ≡ c → ordering_then c (nat_cmp p.1 q.1) ≡ Less → (p.0 < q.0) ⊎ ((p.0 ≡ q.0) × (p.1 < q.1))
@@ -45,16 +44,13 @@ rising [] h = tt
 rising (e ∷ es) h =
     (All-map (Before (mark_of e)) mark_of es (above e es (sorted_head place_cmp e.0 (keys_of es) h)), rising es (sorted_tail place_cmp e.0 (keys_of es) h))
 
-total : IsTotalOrder place_cmp
-total = then_total (on_total (λ (p : ℕ × ℕ). p.0) nat_cmp_total) (on_total (λ (p : ℕ × ℕ). p.1) nat_cmp_total)
-
 module _ (symbols : List Symbol) (m : BTreeMap (ℕ × ℕ) RangeKind) (ordered : IsOrdered place_cmp m) (starts : (j x : ℕ) → get place_cmp m (j, x) ≡ kind_at symbols j x) where
   pub mark_begins : (q : Mark) → Contains (map mark_of m.entries) q → kind_at symbols q.section q.offset ≡ Some q.kind
   mark_begins q h =
       let e = contains_map mark_of m.entries q h in
       let i = place_of m.entries e.0 e.1 in
       subst (λ (z : Mark). kind_at symbols z.section z.offset ≡ Some z.kind) e.2
-      (sym (starts e.0.0.0 e.0.0.1) ∙ btree_map_get_place total m i.0 e.0.0 e.0.1 ordered i.1)
+      (sym (starts e.0.0.0 e.0.0.1) ∙ btree_map_get_place place_total m i.0 e.0.0 e.0.1 ordered i.1)
 
   pub beginning_marked : (q : Mark) → kind_at symbols q.section q.offset ≡ Some q.kind → Contains (map mark_of m.entries) q
   beginning_marked q h =

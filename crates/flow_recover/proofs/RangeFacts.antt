@@ -1,4 +1,4 @@
--- What is answered is what the definitions say.
+-- The ranges that are answered are all that there are, in order, and a refusal is of the first fault.
 use Rattle.std.proofs.Common.{◌≡◌, ℕ, Bool, true, false, List, [], ◌++◌, refl, sym, ap, ◌∙◌, subst, inl, map, Some}
 use Rattle.std.specs.Prelude.{Contains}
 use Rattle.std.specs.BTreeMap.{BTreeMap, get, IsOrdered}

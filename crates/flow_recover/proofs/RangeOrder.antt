@@ -1,14 +1,13 @@
 -- Ranges of a section do not overlap, and lie within its bytes.
-use Rattle.std.proofs.Common.{◌≡◌, ◌<◌, ◌≤◌, ℕ, Bool, true, false, cond, length, refl, sym, ap, ◌∙◌, subst, inl, inr, ◌⊎◌, arith, Some}
-use Rattle.std.specs.Prelude.{◌==◌, ◌&&◌, slice_get, if◌then◌else◌}
-use Rattle.std.proofs.lemmas.Bool.{and_parts, eqb-true, both_ways, cases_lt, cases_order}
+use Rattle.std.proofs.Common.{◌≡◌, ◌<◌, ◌≤◌, ℕ, true, length, sym, ap, ◌∙◌, inl, inr, arith, Some}
+use Rattle.std.specs.Prelude.{slice_get}
+use Rattle.std.proofs.lemmas.Bool.{both_ways, cases_lt, cases_order}
 use Rattle.std.proofs.lemmas.Option.{same_Some}
 use Rattle.elf_model.specs.declared.objects.Section.{Section}
 use Rattle.elf_model.specs.declared.ranges.RangeKind.{RangeKind}
-use Rattle.elf_model.specs.Constants.{progbits, nobits}
-use Rattle.elf_model.specs.Objects.{ObjectParts, is_object, is_section, is_code, is_alloc, is_exec, has_bytes}
+use Rattle.elf_model.specs.Objects.{ObjectParts, is_object, is_code}
 use Rattle.elf_model.specs.Ranges.{is_mapped, IsRange}
-use Rattle.flow_recover.proofs.Elements.{all_at}
+pub use Rattle.flow_recover.proofs.ObjectFacts.{section_sound, code_length}
 use Rattle.flow_recover.proofs.KindFacts.{kind_here, mapped_from}
 
 -- a mapping symbol stands where a range begins
@@ -44,23 +43,6 @@ range_end_same o kind other j a b c r s =
               let h : c ≤ s.section.size = s.inside in
               omega arith
         ]
-
--- a section of code has as many bytes as its size says
-pub code_length : (s : Section) → is_section s ≡ true → is_code s ≡ true → length s.bytes ≡ s.size
-code_length s h code =
-    let a = and_parts _ (has_bytes s) h in
-    let e : length s.bytes ≡ cond (s.kind == nobits) 0 s.size = eqb-true (length s.bytes) (if s.kind == nobits then 0 else s.size) a.1 in
-    let k : s.kind ≡ progbits = eqb-true s.kind progbits (and_parts (s.kind == progbits) (is_alloc s.flags) (and_parts ((s.kind == progbits) && is_alloc s.flags) (is_exec s.flags) code).0).0 in
-    e ∙ ap (λ (n : ℕ). cond (n == nobits) 0 s.size) k
-
-pub section_sound : (o : ObjectParts) (j : ℕ) (s : Section) → is_object o ≡ true → slice_get o.sections j ≡ Some s → is_section s ≡ true
-section_sound o j s h at =
-    let a = and_parts _ _ h in
-    let b = and_parts _ _ a.0 in
-    let c = and_parts _ _ b.0 in
-    let d = and_parts _ _ c.0 in
-    let e = and_parts _ _ d.0 in
-    all_at is_section o.sections j s e.0 at
 
 -- a range lies within its section's bytes
 pub range_inside : (o : ObjectParts) (kind : RangeKind) (j a b : ℕ) (s : Section) → is_object o ≡ true → slice_get o.sections j ≡ Some s → IsRange o kind j a b → b ≤ length s.bytes

@@ -18,7 +18,8 @@ use Rattle.flow_recover.specs.declared.spans.Mark.{Mark}
 use Rattle.flow_recover.specs.declared.spans.Span.{Span}
 use Rattle.flow_recover.specs.CodeRanges.{is_below, rise}
 use Rattle.flow_recover.specs.Spans.{kind_at, end_of, span_in, span_of, spans_from, range_of}
-use Rattle.flow_recover.proofs.Elements.{contains_cases, contains_here, contains_later, contains_none, all_at}
+use Rattle.flow_recover.proofs.ObjectFacts.{symbol_sound}
+use Rattle.flow_recover.proofs.Elements.{contains_cases, contains_here, contains_later, contains_none}
 use Rattle.flow_recover.proofs.KindFacts.{beginning, kind_here, mapped_from, some_kind}
 use Rattle.flow_recover.proofs.MarkFacts.{Before, Rising}
 
@@ -32,19 +33,11 @@ stands_home j x (home.Section k) v y =
 
 -- a mapping symbol stands within its section
 module _ (o : ObjectParts) (sound : is_object o ≡ true) where
-  symbols_sound : list_all (is_symbol o.sections) o.symbols ≡ true
-  symbols_sound =
-      let a = and_parts _ _ sound in
-      let b = and_parts _ _ a.0 in
-      let c = and_parts _ _ b.0 in
-      let d = and_parts _ _ c.0 in
-      (and_parts _ _ d.0).1
-
   pub begins_inside : (kind : RangeKind) (j x : ℕ) (h : Section) → IsBeginning o kind j x → slice_get o.sections j ≡ Some h → x ≤ h.size
   begins_inside kind j x h b e =
       let s = b.symbol in
       let at = stands_home j x s.home s.value b.stands in
-      let good : is_symbol o.sections s ≡ true = all_at (is_symbol o.sections) o.symbols b.index s symbols_sound b.is_there in
+      let good : is_symbol o.sections s ≡ true = symbol_sound o b.index s sound b.is_there in
       let within : is_at_home o.sections s (slice_get o.sections j) ≡ true =
       ap (λ (z : Home). has_home o.sections s z) (sym at.0) ∙ (and_parts _ (has_home o.sections s s.home) good).1 in
       let inside : is_inside s h ≡ true = ap (is_at_home o.sections s) (sym e) ∙ within in

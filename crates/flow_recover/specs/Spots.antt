@@ -14,6 +14,7 @@ use Rattle.elf_model.specs.Constants.{func}
 use Rattle.elf_model.specs.Objects.{is_code}
 use Rattle.flow_recover.specs.declared.spans.Span.{Span}
 use Rattle.flow_recover.specs.Spans.{kind_at}
+use Rattle.flow_recover.specs.Relocations.{holds_code}
 use Rattle.flow_recover.specs.CodeRanges.{comes_before}
 
 abbrev pub spot_of : Refusal → ℕ → ℕ → Spot
@@ -41,10 +42,6 @@ arm_spots [] = []
 arm_spots (s ∷ rest) = option_to_list (arm_spot s) ++ arm_spots rest
 
 -- a function of Arm code
-abbrev pub holds_code : Option Section → Bool
-holds_code None = false
-holds_code (Some s) = is_code s
-
 abbrev pub function_spot_at : List Section → Symbol → Home → Option Spot
 function_spot_at sections f home.Undefined = None
 function_spot_at sections f home.Absolute = None

@@ -1,19 +1,19 @@
 //! What stands in the way of ranges.
 
-ghost use Rattle.std.specs.Prelude.{◌≡◌, ◌≤◌, ℕ, ◌++◌, [], IfOk, OnOk, MatchOption, Contains, All, length, false};
+ghost use Rattle.std.specs.Prelude.{◌≡◌, ◌≤◌, ℕ, ◌++◌, IfOk, OnOk, length};
 ghost use Rattle.std.specs.BTreeMap.{get};
 ghost use Rattle.flow_recover.specs.Spans.{place_cmp, kind_at};
 ghost use Rattle.flow_recover.specs.Spots.{spot_of, unmapped_spot, unmapped_spots, arm_spot, arm_spots, function_spot, function_spots, earlier, IsFirst};
 ghost use Rattle.flow_recover.specs.CodeRanges.{comes_before};
 
 use crate::spans::Span;
+use crate::values::FUNC;
 use elf_model::{Home, RangeKind, Refusal, Section, Spot, Symbol, is_code};
 use std::alloc::{AllocError, Global};
 use std::collections::BTreeMap;
 
-const FUNC: u8 = 2;
-
-fn spot_of(refusal: Refusal, section: u32, offset: u32) -> Spot
+/// The spot of a refusal, with file 0.
+pub(crate) fn spot_of(refusal: Refusal, section: u32, offset: u32) -> Spot
     ensures { result ≡ spot_of refusal section offset }
 {
     Spot {
@@ -40,6 +40,7 @@ fn unmapped_spot(
     }
 }
 
+/// Adds the code sections that do not begin with a mapping symbol.
 fn push_unmapped(
     spots: &mut Vec<Spot>,
     starts: &BTreeMap<(u32, u32), RangeKind>,
@@ -69,6 +70,7 @@ fn arm_spot(s: Span) -> Option<Spot>
     }
 }
 
+/// Adds the spans of Arm code.
 fn push_arm(spots: &mut Vec<Spot>, spans: &[Span]) -> Result<(), AllocError>
     ensures { OnOk result (spots.new.items ≡ spots.old.items ++ arm_spots spans.now) }
 {
@@ -98,6 +100,7 @@ fn function_spot(sections: &[Section], f: &Symbol) -> Option<Spot>
     }
 }
 
+/// Adds the functions in code whose values have bit 0 clear.
 fn push_functions(
     spots: &mut Vec<Spot>,
     sections: &[Section],
@@ -132,6 +135,7 @@ pub(crate) fn spots_of(
     Ok(spots)
 }
 
+/// Whether a spot comes before another: by section, then by offset, then by number.
 fn comes_before(a: Spot, b: Spot) -> bool
     ensures { result ≡ comes_before a.refusal a.section a.offset b }
 {
@@ -141,6 +145,7 @@ fn comes_before(a: Spot, b: Spot) -> bool
                 || (a.offset == b.offset && a.refusal.number() < b.refusal.number())))
 }
 
+/// The one of two spots that comes first.
 fn earlier(first: Option<Spot>, spot: Spot) -> Spot
     ensures { result ≡ earlier first spot }
 {

@@ -21,6 +21,7 @@ pub struct Range {
     pub code: bool,
 }
 
+/// A span as a range of Thumb code or of data.
 fn range_of(s: Span) -> Range
     ensures { result ≡ range_of s }
 {
@@ -36,6 +37,7 @@ fn range_of(s: Span) -> Range
     }
 }
 
+/// Spans as ranges.
 fn ranges_of(alloc: Global, spans: &[Span]) -> Result<Vec<Range>, AllocError>
     ensures { IfOk result (λ ranges. ranges.items ≡ map range_of spans.now) }
 {

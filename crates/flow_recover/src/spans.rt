@@ -1,6 +1,6 @@
 //! From mapping symbols to the spans between them.
 
-ghost use Rattle.std.specs.Prelude.{◌≡◌, ◌≤◌, ℕ, ◌++◌, IfOk, OnOk, length, map, if◌then◌else◌, ◌==◌, ◌&&◌};
+ghost use Rattle.std.specs.Prelude.{◌≡◌, ℕ, IfOk, OnOk, map, if◌then◌else◌, ◌==◌, ◌&&◌};
 ghost use Rattle.std.specs.BTreeMap.{get, IsOrdered};
 ghost use Rattle.std.specs.Option.{option_or};
 ghost use Rattle.flow_recover.specs.Spans.{place_cmp, kind_by, kind_at, mark_of, end_of, span_of, spans_from};
@@ -27,6 +27,7 @@ pub struct Span {
     pub kind: RangeKind,
 }
 
+/// Keeps what begins at a place.
 fn note_place(
     starts: &mut BTreeMap<(u32, u32), RangeKind>,
     section: u32,
@@ -85,6 +86,7 @@ pub(crate) fn marks_of(
         .collect(alloc)
 }
 
+/// Where a mark's span ends: at the next mark of its section, or with the section.
 fn end_of(m: Mark, next: Option<Mark>, size: u32) -> u32
     ensures { result ≡ end_of m next size }
 {
@@ -98,6 +100,7 @@ fn end_of(m: Mark, next: Option<Mark>, size: u32) -> u32
     }
 }
 
+/// The span of a mark, if it is in code and has bytes.
 fn span_of(sections: &[Section], m: Mark, next: Option<Mark>) -> Option<Span>
     ensures { result ≡ span_of sections.now m next }
 {

@@ -1,56 +1,18 @@
 use super::*;
-use elf_model::{
-    Bytes, Deny, Home, Limit, Name, Object, Refusal, Section, Spot, Symbol, object, within,
-};
+use crate::made::{Row, object_of, section};
+use elf_model::{Deny, Home, Limit, Object, Refusal, Spot, within};
 use std::alloc::{AllocError, Global};
 use std::process::Abort;
 
-// A symbol's name, value, binding, type and section.
-type Row<'a> = (&'a [u8], u32, u8, u8, u32);
-
-fn section(
-    alloc: Global,
-    text: &[u8],
-    flags: u32,
-    size: u32,
-    bytes: &[u8],
-) -> Result<Section, AllocError> {
-    Ok(Section {
-        name: Name::new(Vec::from_slice(alloc, text)?),
-        kind: 1,
-        flags,
-        align: 4,
-        entry: 0,
-        size,
-        bytes: Bytes::new(Vec::from_slice(alloc, bytes)?),
-    })
-}
-
-fn symbol(alloc: Global, row: &Row<'_>) -> Result<Symbol, AllocError> {
-    Ok(Symbol {
-        name: Name::new(Vec::from_slice(alloc, row.0)?),
-        value: row.1,
-        size: 0,
-        bind: row.2,
-        kind: row.3,
-        other: 0,
-        home: Home::Section(row.4),
-    })
-}
-
 // Three code sections, of which one is empty, and one of data behind the first.
-fn mixed(alloc: Global, rows: &[Row<'_>]) -> Result<Option<Object>, AllocError> {
+fn mixed(alloc: Global, rows: &[Row]) -> Result<Option<Object>, AllocError> {
     let sections = vec![in alloc;
         section(alloc, b".text", 6, 12, &[0; 12])?,
         section(alloc, b".rodata", 2, 4, &[0; 4])?,
         section(alloc, b".none", 6, 0, &[])?,
         section(alloc, b".init", 6, 4, &[112, 71, 0, 191])?,
     ]?;
-    let mut symbols = Vec::new(alloc);
-    for row in rows {
-        symbols.push(symbol(alloc, row)?)?;
-    }
-    Ok(object(sections, symbols, Vec::new(alloc), 0x0500_0000))
+    object_of(alloc, sections, rows, &[])
 }
 
 fn ranges(
@@ -74,11 +36,11 @@ fn range(section: u32, start: u32, end: u32, code: bool) -> Range {
 
 fn function(alloc: Global) -> Result<Option<Object>, AllocError> {
     let sections = vec![in alloc; section(alloc, b".text", 6, 4, &[5, 32, 112, 71])?]?;
-    let symbols = vec![in alloc;
-        symbol(alloc, &(b"$t", 0, 0, 0, 0))?,
-        symbol(alloc, &(b"f", 1, 1, 2, 0))?,
-    ]?;
-    Ok(object(sections, symbols, Vec::new(alloc), 0x0500_0000))
+    let rows: [Row; 2] = [
+        (b"$t", 0, 0, 0, Home::Section(0)),
+        (b"f", 1, 1, 2, Home::Section(0)),
+    ];
+    object_of(alloc, sections, &rows, &[])
 }
 
 #[test]
@@ -90,15 +52,15 @@ fn gives_the_range_of_a_function(rt: HostRuntime) {
 // Symbols in any order, names with a text behind a dot, and a place with three symbols.
 #[test]
 fn divides_sections(rt: HostRuntime) {
-    let rows: [Row<'_>; 8] = [
-        (b"$d", 0, 0, 0, 3),
-        (b"$d.pool", 8, 0, 0, 0),
-        (b"$a", 4, 0, 0, 0),
-        (b"$d", 4, 0, 0, 0),
-        (b"$t.1", 4, 0, 0, 0),
-        (b"$t", 0, 0, 0, 0),
-        (b"$tx", 2, 0, 0, 0),
-        (b"$a", 12, 0, 0, 0),
+    let rows: [Row; 8] = [
+        (b"$d", 0, 0, 0, Home::Section(3)),
+        (b"$d.pool", 8, 0, 0, Home::Section(0)),
+        (b"$a", 4, 0, 0, Home::Section(0)),
+        (b"$d", 4, 0, 0, Home::Section(0)),
+        (b"$t.1", 4, 0, 0, Home::Section(0)),
+        (b"$t", 0, 0, 0, Home::Section(0)),
+        (b"$tx", 2, 0, 0, Home::Section(0)),
+        (b"$a", 12, 0, 0, Home::Section(0)),
     ];
     let found = ranges(&rt, rt.alloc(), mixed(rt.alloc(), &rows)).expect(&rt, "ranges");
     let wanted = [
@@ -113,18 +75,18 @@ fn divides_sections(rt: HostRuntime) {
 // In data neither mapping symbols nor functions are asked about.
 #[test]
 fn leaves_data_alone(rt: HostRuntime) {
-    let rows: [Row<'_>; 4] = [
-        (b"$a", 0, 0, 0, 1),
-        (b"$t", 0, 0, 0, 0),
-        (b"$t", 0, 0, 0, 3),
-        (b"f", 2, 1, 2, 1),
+    let rows: [Row; 4] = [
+        (b"$a", 0, 0, 0, Home::Section(1)),
+        (b"$t", 0, 0, 0, Home::Section(0)),
+        (b"$t", 0, 0, 0, Home::Section(3)),
+        (b"f", 2, 1, 2, Home::Section(1)),
     ];
     let found = ranges(&rt, rt.alloc(), mixed(rt.alloc(), &rows)).expect(&rt, "ranges");
     let wanted = [range(0, 0, 12, true), range(3, 0, 4, true)];
     assert_eq!(rt; found.as_slice(), wanted.as_slice());
 }
 
-fn refuses(rt: &impl Abort, alloc: Global, rows: &[Row<'_>], wanted: (Refusal, u32, u32)) {
+fn refuses(rt: &impl Abort, alloc: Global, rows: &[Row], wanted: (Refusal, u32, u32)) {
     let (refusal, section, offset) = wanted;
     let why = ranges(rt, alloc, mixed(alloc, rows)).expect_err(rt, "a refusal");
     let spot = Spot {
@@ -139,20 +101,25 @@ fn refuses(rt: &impl Abort, alloc: Global, rows: &[Row<'_>], wanted: (Refusal, u
 #[test]
 fn refuses_the_first_fault(rt: HostRuntime) {
     let alloc = rt.alloc();
-    let init: Row<'_> = (b"$t", 0, 0, 0, 3);
-    let text: Row<'_> = (b"$t", 0, 0, 0, 0);
+    let init: Row = (b"$t", 0, 0, 0, Home::Section(3));
+    let text: Row = (b"$t", 0, 0, 0, Home::Section(0));
     // A global symbol and one behind the beginning are no mapping symbols there.
-    let global = [init, (b"$t", 0, 1, 0, 0)];
+    let global = [init, (b"$t", 0, 1, 0, Home::Section(0))];
     refuses(&rt, alloc, &global, (Refusal::NoMapping, 0, 0));
-    let late = [init, (b"$t", 2, 0, 0, 0)];
+    let late = [init, (b"$t", 2, 0, 0, Home::Section(0))];
     refuses(&rt, alloc, &late, (Refusal::NoMapping, 0, 0));
-    let arm = [init, text, (b"$a", 4, 0, 0, 0), (b"f", 6, 1, 2, 0)];
+    let arm = [
+        init,
+        text,
+        (b"$a", 4, 0, 0, Home::Section(0)),
+        (b"f", 6, 1, 2, Home::Section(0)),
+    ];
     refuses(&rt, alloc, &arm, (Refusal::ArmCode, 0, 4));
-    let even = [init, text, (b"f", 2, 1, 2, 3)];
+    let even = [init, text, (b"f", 2, 1, 2, Home::Section(3))];
     refuses(&rt, alloc, &even, (Refusal::ArmCode, 3, 2));
     // At one offset, the lower number comes first, and before that the lower section.
-    let both = [init, (b"f", 0, 1, 2, 0)];
+    let both = [init, (b"f", 0, 1, 2, Home::Section(0))];
     refuses(&rt, alloc, &both, (Refusal::NoMapping, 0, 0));
-    let later = [text, (b"f", 2, 1, 2, 0)];
+    let later = [text, (b"f", 2, 1, 2, Home::Section(0))];
     refuses(&rt, alloc, &later, (Refusal::ArmCode, 0, 2));
 }

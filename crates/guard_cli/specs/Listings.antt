@@ -1,17 +1,17 @@
 -- The listing of an object: for each code section its name, and a line for each instruction or datum.
-use Rattle.std.specs.Prelude.{◌≡◌, ◌<◌, ◌≤◌, ℕ, ◌+◌, ◌/◌, ◌%◌, ◌^◌, true, false, List, [], ◌∷◌, ◌++◌, length, map, codes, Option, Some, None, Ok, Err, if◌then◌else◌}
+use Rattle.std.specs.Prelude.{◌≡◌, ◌<◌, ◌≤◌, ℕ, ◌+◌, ◌/◌, ◌%◌, ◌^◌, true, false, List, [], ◌∷◌, ◌++◌, length, map, codes, Ok, Err, if◌then◌else◌}
 use Rattle.std.specs.Fmt.{decimal, digit_glyph}
 use Rattle.std.specs.List.{flat_map}
 use Rattle.elf_model.specs.declared.objects.Section.{Section}
 use Rattle.elf_model.specs.declared.ranges.RangeKind.TheVariants.{Code}
 use Rattle.elf_model.specs.Fields.{byte_at, half_at, word_at}
 use Rattle.elf_model.specs.Objects.{ObjectParts, is_code}
-use Rattle.elf_model.specs.Ranges.{IsRange, is_long, length_at, IsStart}
+use Rattle.elf_model.specs.Ranges.{IsRange, is_long, length_at}
 use Rattle.thumb_instr.specs.declared.instructions.Instr.{Instr}
-use Rattle.thumb_instr.specs.declared.instructions.Instr.TheVariants.{It}
 use Rattle.thumb_instr.specs.declared.refusals.BadInstr.{BadInstr}
-use Rattle.thumb_instr.specs.Rows.{Answer, decode_given}
-use Rattle.thumb_instr.specs.Blocks.{it_state, it_after, place_in_block}
+use Rattle.thumb_instr.specs.Blocks.{it_after}
+pub use Rattle.flow_recover.specs.Starts.{IsCodeStart, second_half, decoded_at}
+pub use Rattle.flow_recover.specs.Reach.{it_behind}
 use Rattle.thumb_text.specs.Pieces.{hex_word}
 use Rattle.thumb_text.specs.Listing.{line_of}
 
@@ -37,18 +37,6 @@ word_line bytes x = line_at x (codes ".word 0x" ++ hex_word (word_at bytes x))
 abbrev pub short_lines : List ℕ → ℕ → List (List ℕ)
 short_lines bytes x = if is_long (half_at bytes x) then short_line bytes x ∷ short_line bytes (x + 2) ∷ [] else short_line bytes x ∷ []
 
--- what the instruction at a start stands for in an IT state
-abbrev pub second_half : List ℕ → ℕ → Option ℕ
-second_half bytes x = if is_long (half_at bytes x) then Some (half_at bytes (x + 2)) else None
-
-abbrev pub decoded_at : List ℕ → ℕ → ℕ → Answer
-decoded_at bytes x it = decode_given (place_in_block it) (half_at bytes x) (second_half bytes x)
-
--- the IT state behind an instruction: an It begins a block, every other instruction moves the state on
-abbrev pub it_behind : Instr → ℕ → ℕ
-it_behind (It i) it = it_state i.first i.mask
-it_behind i it = it_after it
-
 -- a byte of a code range
 pub record IsInCode (o : ObjectParts) (j x : ℕ) : Type 0 where
   pub start : ℕ
@@ -56,12 +44,6 @@ pub record IsInCode (o : ObjectParts) (j x : ℕ) : Type 0 where
   pub range : IsRange o Code j start end
   pub not_before : start ≤ x
   pub not_behind : x < end
-
--- an instruction start of the code range that ends here
-pub record IsCodeStart (o : ObjectParts) (j : ℕ) (bytes : List ℕ) (x end : ℕ) : Type 0 where
-  pub start : ℕ
-  pub range : IsRange o Code j start end
-  pub is_start : IsStart bytes start end x
 
 -- four bytes at a multiple of 4, of which none is code
 pub record IsDataWord (o : ObjectParts) (j : ℕ) (bytes : List ℕ) (x : ℕ) : Type 0 where

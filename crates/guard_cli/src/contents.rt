@@ -1,65 +1,22 @@
 //! The lines of a section.
 
-ghost use Rattle.std.specs.Prelude.{◌≡◌, ◌+◌, ◌^◌, ◌<◌, ◌≤◌, ◌++◌, ◌∷◌, [], OnOk, IfOk, All, length, Ok, Err, true, false, ℕ};
+ghost use Rattle.std.specs.Prelude.{◌≡◌, ◌+◌, ◌^◌, ◌<◌, ◌≤◌, ◌++◌, OnOk, IfOk, length, true, ℕ};
 ghost use Rattle.elf_model.specs.Fields.{half_at};
 ghost use Rattle.elf_model.specs.Objects.{ObjectParts};
 ghost use Rattle.elf_model.specs.Ranges.{is_long, length_at};
-ghost use Rattle.guard_cli.specs.Listings.{IsCodeStart, short_lines, decoded_at, it_behind, text_of_lines};
+ghost use Rattle.guard_cli.specs.Listings.{IsCodeStart, short_lines, text_of_lines};
 ghost use Rattle.guard_cli.specs.ListingSteps.{LeadsTo, IsStep, IsThrough, IsAcross, AreAhead, AreApart, ListsContents};
 
 use crate::lines::{push_byte_line, push_instr_line, push_short_line, push_word_line};
-use byteorder::{ByteOrder, LittleEndian};
-use flow_recover::Span;
+use flow_recover::{Span, decode_at, length_at, state_behind};
 use std::alloc::AllocError;
-use thumb_decode::{decode, is_wide};
-use thumb_instr::{BadInstr, Instr, it_after, it_state, place_in_block};
+use thumb_instr::it_after;
 
 /// An offset of a section, and the IT state there.
 #[derive(Clone, Copy, Debug)]
 pub(crate) struct Place {
     pub at: u32,
     pub it: u8,
-}
-
-/// The IT state behind an instruction.
-fn state_behind(i: &Instr, it: u8) -> u8
-    ensures { result ≡ it_behind i.now it }
-{
-    match i {
-        Instr::It(i) => {
-            i.valid();
-            it_state(i.first(), i.mask())
-        }
-        _ => it_after(it),
-    }
-}
-
-/// What the whole instruction at an offset stands for.
-fn decode_at(bytes: &[u8], at: u32, it: u8) -> Result<Instr, BadInstr>
-    requires half { at + 2 ≤ length bytes.now }
-    requires full { is_long (half_at bytes.now at) ≡ true → at + 4 ≤ length bytes.now }
-    ensures { result ≡ decoded_at bytes.now at it }
-{
-    let place = place_in_block(it);
-    let first = LittleEndian::read_u16(&bytes[at as usize..]);
-    if is_wide(first) {
-        let second = LittleEndian::read_u16(&bytes[at as usize + 2..]);
-        decode(first, Some(second), place)
-    } else {
-        decode(first, None, place)
-    }
-}
-
-/// How long the instruction at an offset is, in bytes.
-fn length_at(bytes: &[u8], at: u32) -> u32
-    requires { at + 2 ≤ length bytes.now }
-    ensures { result ≡ length_at bytes.now at }
-{
-    if is_wide(LittleEndian::read_u16(&bytes[at as usize..])) {
-        4
-    } else {
-        2
-    }
 }
 
 /// Appends a line for each halfword of an instruction.

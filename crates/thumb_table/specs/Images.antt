@@ -1,5 +1,5 @@
 -- The image of objects that are placed in memory: code from a base on, then data.
-use Rattle.std.specs.Prelude.{◌≡◌, ◌<◌, ◌≤◌, ◌↔◌, ℕ, zero, suc, ◌+◌, ◌-◌, ◌%◌, ◌^◌, ◌==◌, ◌&&◌, not, max, Bool, true, false, List, [], ◌∷◌, ◌++◌, length, map, replicate, filter, find, Option, Some, None, if◌then◌else◌, All, Contains, slice_get}
+use Rattle.std.specs.Prelude.{◌≡◌, ◌<◌, ◌≤◌, ◌↔◌, ℕ, zero, suc, ◌+◌, ◌-◌, ◌%◌, ◌^◌, ◌==◌, ◌&&◌, max, Bool, true, false, List, [], ◌∷◌, ◌++◌, length, map, replicate, filter, find, Option, Some, None, if◌then◌else◌, All, Contains, slice_get}
 use Rattle.std.specs.List.Sorted.{IsStrictlyIncreasing}
 use Rattle.elf_model.specs.declared.objects.Section.{Section}
 use Rattle.elf_model.specs.declared.objects.Symbol.{Symbol}
@@ -7,7 +7,8 @@ use Rattle.elf_model.specs.declared.objects.Home.{Home}
 use Rattle.elf_model.specs.declared.objects.Home.TheVariants as home
 use Rattle.elf_model.specs.Constants.{nobits, global, weak, func}
 use Rattle.elf_model.specs.Fields.{same_name}
-use Rattle.elf_model.specs.Objects.{ObjectParts, is_code, is_alloc}
+use Rattle.elf_model.specs.Objects.{ObjectParts, is_code}
+pub use Rattle.elf_model.specs.Objects.{is_data, even}
 use Rattle.elf_model.specs.Canonical.{round_up}
 use Rattle.elf_model.specs.declared.ranges.RangeKind.TheVariants.{Data}
 use Rattle.elf_model.specs.Ranges.{IsBeginning}
@@ -38,10 +39,6 @@ pub record Placed : Type 0 where
   pub ordinal : ℕ
   pub start : ℕ
   pub section : Section
-
--- data is in memory and is no code
-abbrev pub is_data : Section → Bool
-is_data s = is_alloc s.flags && not (is_code s)
 
 -- the sections of a sort, in the order of objects and sections, not yet placed
 abbrev pub chosen : (Section → Bool) → ℕ → ℕ → ℕ → List Section → List Placed
@@ -144,9 +141,6 @@ address_of parts d = home_start parts d.object d.symbol.home + d.symbol.value
 abbrev pub is_standing : List ObjectParts → Defined → Option Defined → Bool
 is_standing objects d None = false
 is_standing objects d (Some e) = (d.object == e.object) && (d.index == e.index)
-
-abbrev pub even : ℕ → ℕ
-even a = a - a % 2
 
 abbrev pub entries_of : List ObjectParts → List Placed → List NamedEntry
 entries_of objects parts =

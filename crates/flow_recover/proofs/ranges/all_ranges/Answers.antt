@@ -1,8 +1,8 @@
-use Rattle.std.proofs.Common.{◌≡◌, IfOk, List, sym, ap, subst, ◌∙◌, Result, Ok, Err, map}
+use Rattle.std.proofs.Common.{◌≡◌, IfOk, List, Result, Ok, Err}
 use Rattle.flow_recover.specs.declared.spans.Span.{Span}
 use Rattle.flow_recover.specs.AllRanges.{AreAllRanges}
 use Rattle.flow_recover.specs.Spans.{spans_from}
-use Rattle.flow_recover.proofs.RangeFacts.{AreSpans, spans_made, all_ranges_are}
+use Rattle.flow_recover.proofs.RangeFacts.{spans_made, all_ranges_are}
 use Rattle.flow_recover.proofs.ranges.all_ranges.Goals as goal
 
 pub returns : goal.returns

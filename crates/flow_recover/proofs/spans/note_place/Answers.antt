@@ -1,7 +1,7 @@
 use Rattle.std.proofs.Common.{ap, ◌∙◌, Bool, cond, Some}
 use Rattle.std.specs.BTreeMap.{get}
 use Rattle.flow_recover.specs.Spans.{place_cmp}
-use Rattle.flow_recover.proofs.PlaceFacts.{same_place}
+use Rattle.flow_recover.proofs.PlaceOrder.{same_place}
 use Rattle.flow_recover.proofs.spans.note_place.Goals as goal
 
 pub returns : goal.returns

@@ -1,0 +1,55 @@
+-- What a binary search finds in a list that rises strictly.
+use Rattle.std.proofs.Common.{◌≡◌, ◌↔◌, ◌<◌, ℕ, ◌+◌, List, sym, ap, ◌∙◌, subst, inl, inr, arith, length, get_or, Some, Result, Ok, Err}
+use Rattle.std.specs.Prelude.{slice_get}
+use Rattle.std.specs.declared.cmp.Ordering.{Ordering}
+use Rattle.std.specs.declared.cmp.Ordering.TheVariants.{Less, Equal, Greater}
+use Rattle.std.specs.Cmp.{IsTotalOrder}
+use Rattle.std.specs.Ordering.{is_lt, ordering_index, ordering_reverse}
+use Rattle.std.specs.Result.{result_ok}
+use Rattle.std.specs.List.Sorted.{IsStrictlySortedBy, IsSortedBy, IsNonDecreasingBy, IsSearchInRange, IsBinarySearchResult}
+use Rattle.std.proofs.lemmas.Bool.{cases_lt, cases_order}
+use Rattle.std.proofs.lemmas.Cmp.{tied_itself}
+use Rattle.std.proofs.lemmas.List.Sorted.{searchable_from_sorted}
+use Rattle.std.proofs.lemmas.Map.Keys.{Less-from_sorted}
+use Rattle.std.proofs.lemmas.Option.{none-some, same_Some, slice_get-get_or, slice_get_within, get_or_from_slice_get}
+
+module _ {K : Type 0} {R : K → K → Ordering} (o : IsTotalOrder R) (exact : (x y : K) → R x y ≡ Equal → x ≡ y) (xs : List K) (order : IsStrictlySortedBy R xs) (x : K) where
+  sorted : IsSortedBy (λ a b. is_lt (R a b)) xs
+  sorted k d low high = ap is_lt (o.antisymm (get_or xs (k + 1) d) (get_or xs k d) ∙ ap ordering_reverse (Less-from_sorted R xs k (k + 1) d order (omega arith) high))
+
+  searchable : IsNonDecreasingBy (λ y. ordering_index (R y x)) xs
+  searchable = searchable_from_sorted o (λ k. k) xs x sorted
+
+  not_less : (y : K) → y ≡ x → R y x ≡ Less → ⊥
+  not_less y e h = let same : R x x ≡ Equal = tied_itself o x in let less : R x x ≡ Less = ap (λ (z : K). R z x) (sym e) ∙ h in cc
+
+  not_greater : (y : K) → y ≡ x → R y x ≡ Greater → ⊥
+  not_greater y e h = let same : R x x ≡ Equal = tied_itself o x in let greater : R x x ≡ Greater = ap (λ (z : K). R z x) (sym e) ∙ h in cc
+
+  once : (a b : ℕ) → slice_get xs a ≡ Some x → slice_get xs b ≡ Some x → a ≡ b
+  once a b at_a at_b =
+      elim (cases_order a b) [
+        | inl e ↦ e
+        | inr d ↦ elim d [
+          | inl l ↦ absurd (twice a b at_a at_b l)
+          | inr l ↦ absurd (twice b a at_b at_a l)
+        ]
+      ]
+    where
+      twice : (i j : ℕ) → slice_get xs i ≡ Some x → slice_get xs j ≡ Some x → i < j → ⊥
+      twice i j at_i at_j l =
+          let less : R (get_or xs i x) (get_or xs j x) ≡ Less = Less-from_sorted R xs i j x order l (slice_get_within xs j x at_j) in
+          not_less (get_or xs i x) (get_or_from_slice_get xs i x x at_i) (ap (λ (z : K). R (get_or xs i x) z) (sym (get_or_from_slice_get xs j x x at_j)) ∙ less)
+
+  pub searched : (r : Result ℕ ℕ) → IsSearchInRange r (length xs) → IsBinarySearchResult (λ y. R y x) xs r → (q : ℕ) → (result_ok r ≡ Some q) ↔ (slice_get xs q ≡ Some x)
+  searched (Ok i) range equal q =
+      let there : slice_get xs i ≡ Some x = slice_get-get_or xs i x range ∙ ap (λ (y : K). Some y) (exact (get_or xs i x) x (equal x)) in
+      ((λ h. subst (λ (k : ℕ). slice_get xs k ≡ Some x) (same_Some i q h) there), (λ h. ap (λ (k : ℕ). Some k) (once i q there h)))
+  searched (Err i) range parted q = (
+    (λ h. absurd (none-some q h)),
+    (λ h. let is : get_or xs q x ≡ x = get_or_from_slice_get xs q x x h in
+        elim (cases_lt q i) [
+          | inl l ↦ absurd (not_less (get_or xs q x) is ((parted searchable).0 q x (omega arith) l))
+          | inr l ↦ absurd (not_greater (get_or xs q x) is ((parted searchable).1 q x l (slice_get_within xs q x h)))
+        ]),
+  )

@@ -1,0 +1,15 @@
+use Rattle.std.proofs.Common.{◌≡◌, List, length, ap, refl, arith}
+use Rattle.elf_model.specs.declared.objects.Reloc.{Reloc}
+use Rattle.flow_recover.specs.NamedClaims.{IsAddressClaim}
+use Rattle.flow_recover.proofs.GainFacts.{gains_item, gains_all}
+use Rattle.flow_recover.proofs.named.push_addresses.Goals as goal
+
+pub loop-r-preserved : goal.loop-r-preserved
+loop-r-preserved c =
+    gains_item (IsAddressClaim c.args.o.now) c.args.o.now.relocs c.relocs-r-items.result.now c.loop-r.r-index _ _ c.args.claims.now.items c.loop-r.claims.items c.push_address.new.claims.items
+    c.relocs-r-items.ensures c.loop-r-test.true refl c.loop-r.invariant c.in_ok-push_address.ensures
+
+pub returns : goal.returns
+returns c =
+    let same : length c.relocs-r-items.result.now ≡ length c.args.o.now.relocs = ap (λ (xs : List Reloc). length xs) c.relocs-r-items.ensures in
+    gains_all (IsAddressClaim c.args.o.now) c.args.o.now.relocs c.loop-r.r-index c.args.claims.now.items c.loop-r.claims.items (omega (arith, same)) c.loop-r.invariant

@@ -1,0 +1,8 @@
+use Rattle.std.proofs.Common.{map}
+use Rattle.flow_recover.specs.Settled.{word_at}
+use Rattle.flow_recover.proofs.PointFacts.{ArePointsUpTo}
+use Rattle.flow_recover.proofs.points.points_of.Given as goal
+
+-- the points of the nodes so far
+abbrev pub invariant-loop-n : goal.invariant-loop-n
+invariant-loop-n l = ArePointsUpTo l.o l.nodes (map (word_at l.o) l.places) l.n-index l.points.items
