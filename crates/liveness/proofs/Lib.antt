@@ -7,3 +7,4 @@ pub mod SpotFacts
 pub mod Elements
 pub mod LowestFacts
 pub mod FaultFacts
+pub mod RecoveredFlows

@@ -21,7 +21,7 @@ pub record HasGrown (old new : List RegSet) : Type 0 where
   pub out : holds_at old point member ≡ false
   pub there : holds_at new point member ≡ true
 
--- i turns of a sweep
+-- i turns of a sweep, at the last i points
 pub record IsUnderWay (f : FlowParts) (b : Boundary) (old new : LiveParts) (i : ℕ) (grew : Bool) : Type 0 where
   pub sized : length new.sets ≡ length f.points
   pub turns : new.turns ≡ old.turns + i
@@ -29,7 +29,7 @@ pub record IsUnderWay (f : FlowParts) (b : Boundary) (old new : LiveParts) (i : 
   pub sound : AreSound f b new.sets
   pub grown : grew ≡ true → HasGrown old.sets new.sets
   pub same : grew ≡ false → (p k : ℕ) → holds_at new.sets p k ≡ holds_at old.sets p k
-  pub stable : grew ≡ false → (p k : ℕ) (x : Point) → p < i → slice_get f.points p ≡ Some x → gains b new.sets x k ≡ true → holds_at new.sets p k ≡ true
+  pub stable : grew ≡ false → (p k : ℕ) (x : Point) → length f.points ≤ p + i → slice_get f.points p ≡ Some x → gains b new.sets x k ≡ true → holds_at new.sets p k ≡ true
 
 -- one turn
 pub record IsTurn (f : FlowParts) (b : Boundary) (old new : LiveParts) (p : ℕ) (grew : Bool) : Type 0 where
@@ -45,6 +45,15 @@ point_at points p low = elim ((slice_get_cases points p).1) [
   | inl w ↦ (w.0, w.2)
   | inr w ↦ absurd (omega (arith, w.0))
 ]
+
+within : (points : List Point) (p : ℕ) (x : Point) → slice_get points p ≡ Some x → p < length points
+within points p x there = elim ((slice_get_cases points p).1) [
+  | inl v ↦ v.1
+  | inr v ↦ absurd (none_some x (sym v.1 ∙ there))
+]
+  where
+    none_some : (x : Point) → None ≡ Some x → ⊥
+    none_some x e = absurd (cc)
 
 other_same : (f : FlowParts) (b : Boundary) (old new : LiveParts) (p q k : ℕ) (grew : Bool) → IsTurn f b old new p grew → q ≢ p → holds_at new.sets q k ≡ holds_at old.sets q k
 other_same f b old new p q k grew t ne = ap (λ (o : Option RegSet). has_in o k) (t.others q ne)
@@ -94,42 +103,45 @@ turn_same f b old new p q k grew t low no_more = elim (cases_eq q p) [
 pub under_way_first : (f : FlowParts) (b : Boundary) (old : LiveParts) → length old.sets ≡ length f.points → AreSound f b old.sets → IsUnderWay f b old old 0 false
 under_way_first f b old sized sound =
     let z : old.turns ≡ old.turns + 0 = omega arith in
-    record { sized = sized; turns = z; keeps = λ p k h. h; sound = sound; grown = λ e. absurd (true≢false (sym e)); same = λ e p k. refl; stable = λ e p k x low. absurd (omega arith) }
+    record { sized = sized; turns = z; keeps = λ p k h. h; sound = sound; grown = λ e. absurd (true≢false (sym e)); same = λ e p k. refl; stable = λ e p k x high there. absurd (let low = within f.points p x there in omega (arith, high, low)) }
 
-pub under_way_more : (f : FlowParts) (b : Boundary) (first old new : LiveParts) (i : ℕ) (grew more : Bool) → i < length f.points → IsUnderWay f b first old i grew → IsTurn f b old new i more → IsUnderWay f b first new (i + 1) (more || grew)
-under_way_more f b first old new i grew more low w t = record {
+pub under_way_more : (f : FlowParts) (b : Boundary) (first old new : LiveParts) (i p : ℕ) (grew more : Bool) → p + i + 1 ≡ length f.points → IsUnderWay f b first old i grew → IsTurn f b old new p more → IsUnderWay f b first new (i + 1) (more || grew)
+under_way_more f b first old new i p grew more here w t = record {
   sized = t.sized ∙ w.sized;
   turns = let a = t.turns in let c = w.turns in omega arith;
-  keeps = λ p k h. turn_keeps f b old new i p k more t low (w.keeps p k h);
-  sound = turn_sound f b old new i more t low w.sound;
+  keeps = λ q k h. turn_keeps f b old new p q k more t low (w.keeps q k h);
+  sound = turn_sound f b old new p more t low w.sound;
   grown = λ e. elim (or_cases more grew e) [
     | inl m ↦
         let new_at = t.grew_is.0 m in
-        record { point = i; member = new_at.0; small = small_member f b old new i new_at.0 more t new_at.2; out = was_out new_at.0 new_at.1; there = new_at.2 }
+        record { point = p; member = new_at.0; small = small_member f b old new p new_at.0 more t new_at.2; out = was_out new_at.0 new_at.1; there = new_at.2 }
     | inr g ↦
         let at = w.grown g in
-        record { point = at.point; member = at.member; small = at.small; out = at.out; there = turn_keeps f b old new i at.point at.member more t low at.there }
+        record { point = at.point; member = at.member; small = at.small; out = at.out; there = turn_keeps f b old new p at.point at.member more t low at.there }
   ];
-  same = λ e p k. turn_same f b old new i p k more t low (or_none more grew e).0 ∙ w.same (or_none more grew e).1 p k;
-  stable = λ e p k x below there h.
-      let still : (q : ℕ) → holds_at new.sets q k ≡ holds_at old.sets q k = λ q. turn_same f b old new i q k more t low (or_none more grew e).0 in
+  same = λ e q k. turn_same f b old new p q k more t low (or_none more grew e).0 ∙ w.same (or_none more grew e).1 q k;
+  stable = λ e q k x high there h.
+      let still : (j : ℕ) → holds_at new.sets j k ≡ holds_at old.sets j k = λ j. turn_same f b old new p j k more t low (or_none more grew e).0 in
       let gained : gains b old.sets x k ≡ true = sym (gains_same b new.sets old.sets x k still) ∙ h in
-      elim (at_or_below p i below) [
-        | inl here ↦
-            let there_i : slice_get f.points i ≡ Some x = subst (λ (j : ℕ). slice_get f.points j ≡ Some x) here there in
-            subst (λ (j : ℕ). holds_at new.sets j k ≡ true) (sym here) (t.set x there_i k ∙ or_right (holds_at old.sets i k) (gains b old.sets x k) gained)
-        | inr l ↦ still p ∙ w.stable (or_none more grew e).1 p k x l there gained
+      elim (at_or_above q p i (length f.points) here high) [
+        | inl at ↦
+            let there_p : slice_get f.points p ≡ Some x = subst (λ (j : ℕ). slice_get f.points j ≡ Some x) at there in
+            subst (λ (j : ℕ). holds_at new.sets j k ≡ true) (sym at) (t.set x there_p k ∙ or_right (holds_at old.sets p k) (gains b old.sets x k) gained)
+        | inr l ↦ still q ∙ w.stable (or_none more grew e).1 q k x l there gained
       ];
 }
   where
-    at_or_below : (k n : ℕ) → k < n + 1 → (k ≡ n) ⊎ (k < n)
-    at_or_below k n low = grind arith
+    low : p < length f.points
+    low = omega (arith, here)
 
-    was_out : (k : ℕ) → holds_at old.sets i k ≡ false → holds_at first.sets i k ≡ false
-    was_out k out = go (holds_at first.sets i k) refl
+    at_or_above : (q p i n : ℕ) → p + i + 1 ≡ n → n ≤ q + (i + 1) → (q ≡ p) ⊎ (n ≤ q + i)
+    at_or_above q p i n here high = grind arith
+
+    was_out : (k : ℕ) → holds_at old.sets p k ≡ false → holds_at first.sets p k ≡ false
+    was_out k out = go (holds_at first.sets p k) refl
       where
-        go : (v : Bool) → holds_at first.sets i k ≡ v → holds_at first.sets i k ≡ false
-        go true e = absurd (true≢false (sym (w.keeps i k e) ∙ out))
+        go : (v : Bool) → holds_at first.sets p k ≡ v → holds_at first.sets p k ≡ false
+        go true e = absurd (true≢false (sym (w.keeps p k e) ∙ out))
         go false e = e
 
 pub swept : (f : FlowParts) (b : Boundary) (old new : LiveParts) (i : ℕ) (grew : Bool) → length old.sets ≡ length f.points → i ≡ length f.points → IsUnderWay f b old new i grew → IsSwept f b old new grew
@@ -138,14 +150,5 @@ swept f b old new i grew sized all w = record {
   turns = w.turns ∙ ap (λ (n : ℕ). old.turns + n) all;
   sound = w.sound;
   less = λ e. let g = w.grown e in room_falls_at old.sets new.sets g.point g.member (w.sized ∙ sym sized) w.keeps g.small g.out g.there;
-  stable = λ e p k x there h. w.stable e p k x (subst (λ (n : ℕ). p < n) (sym all) (within f.points p x there)) there h;
+  stable = λ e p k x there h. w.stable e p k x (omega (arith, all)) there h;
 }
-  where
-    within : (points : List Point) (p : ℕ) (x : Point) → slice_get points p ≡ Some x → p < length points
-    within points p x there = elim ((slice_get_cases points p).1) [
-      | inl v ↦ v.1
-      | inr v ↦ absurd (none_some x (sym v.1 ∙ there))
-    ]
-      where
-        none_some : (x : Point) → None ≡ Some x → ⊥
-        none_some x e = absurd (cc)

@@ -2,6 +2,7 @@
 #![tactic(auto)]
 
 mod boundary;
+mod laws;
 mod liveness;
 mod members;
 mod points;
@@ -10,6 +11,7 @@ mod spots;
 mod sweeps;
 
 pub use boundary::Boundary;
+pub use laws::recovered_flows_name_points;
 pub use liveness::live;
 pub use sets::Live;
 

@@ -2,18 +2,12 @@
 
 ghost use Rattle.std.specs.Prelude.{◌≡◌, ℕ};
 ghost use Rattle.thumb_instr.specs.Operands.{has};
-ghost use Rattle.liveness.specs.Paths.{may_fail, branch_cond, has_condition, reads_at, always_writes, leaves, passes, boundary_of, uses_at};
+ghost use Rattle.liveness.specs.Paths.{branch_cond, has_condition, reads_at, always_writes, leaves, passes, boundary_of, uses_at};
 
 use crate::Boundary;
 use crate::members::minus;
-use flow_recover::{Exit, Point};
+use flow_recover::{Exit, Point, may_fail};
 use thumb_instr::{Cond, Instr, RegSet, cond_reads, reads, sets_flags, writes};
-
-fn may_fail(c: Cond) -> bool
-    ensures { result ≡ may_fail c }
-{
-    !matches!(c, Cond::Al)
-}
 
 /// The condition of a branch instruction.
 fn branch_cond(i: &Instr) -> Cond

@@ -8,7 +8,7 @@ use crate::{Boundary, Live};
 use flow_recover::Flow;
 use std::alloc::{AllocError, Global};
 
-/// A turn at each point. Whether some set grew.
+/// A turn at each point, the last one first, since what is live comes from behind. Whether some set grew.
 fn sweep(sets: &mut Live, f: &Flow, b: &Boundary) -> bool
     requires flow { NamesPoints f.now }
     requires sized { length sets.old.sets ≡ length f.now.points }
@@ -17,8 +17,9 @@ fn sweep(sets: &mut Live, f: &Flow, b: &Boundary) -> bool
     ensures { IsSwept f.now b.now sets.old sets.new result }
 {
     let mut grew = false;
-    for p in 0..f.points().len() {
-        let more = sets.settle(f, b, p as u32);
+    let count = f.points().len();
+    for turn in 0..count {
+        let more = sets.settle(f, b, (count - 1 - turn) as u32);
         grew = more || grew;
     }
     grew

@@ -1,4 +1,4 @@
-//! Flows that are made by hand, and what is live in them.
+//! Flows that are made by hand or recovered from objects, and what is live in them.
 
 ghost use Rattle.std.specs.Prelude.{◌≡◌, ◌<◌, ℕ, All, IsTrue, length};
 ghost use Rattle.flow_recover.specs.declared.flows.Point.{Point};
@@ -6,8 +6,11 @@ ghost use Rattle.liveness.specs.Paths.{Leads, NamesPoints};
 
 use super::*;
 use bitflags::Flags;
-use elf_model::{Deny, Refusal, Spot};
-use flow_recover::{Exit, Flow, Point};
+use elf_model::{
+    Bytes, Deny, Home, Limit, Name, Object, Refusal, Reloc, RelocKind, Section, Spot, Symbol,
+    object, within,
+};
+use flow_recover::{Exit, Flow, Point, recover};
 use mark_word::Shift;
 use std::alloc::{AllocError, Global};
 use std::process::Abort;
@@ -90,17 +93,25 @@ fn told(alloc: Global, f: &Flow, b: &Boundary, l: &Live) -> Result<Vec<(u32, u32
     Ok(sets)
 }
 
+fn sets_in(
+    rt: &impl Abort,
+    alloc: Global,
+    f: &Flow,
+    b: &Boundary,
+) -> Result<Vec<(u32, u32)>, Deny> {
+    assert!(rt; names_points(f));
+    let l = live(alloc, f, b)?;
+    assert!(rt; 0 < l.turns());
+    Ok(told(alloc, f, b, &l)?)
+}
+
 fn sets_of(
     rt: &impl Abort,
     alloc: Global,
     points: &[Point],
     b: &Boundary,
 ) -> Result<Vec<(u32, u32)>, Deny> {
-    let f = flow(alloc, points)?;
-    assert!(rt; names_points(&f));
-    let l = live(alloc, &f, b)?;
-    assert!(rt; 0 < l.turns());
-    Ok(told(alloc, &f, b, &l)?)
+    sets_in(rt, alloc, &flow(alloc, points)?, b)
 }
 
 fn set(bits: u32) -> RegSet {
@@ -335,4 +346,105 @@ fn refuses_what_an_entry_lacks(rt: HostRuntime) {
         Refusal::LiveAtEntry { register: 17 },
         0,
     );
+}
+
+fn symbol(
+    alloc: Global,
+    text: &[u8],
+    value: u32,
+    bind: u8,
+    kind: u8,
+    home: Home,
+) -> Result<Symbol, AllocError> {
+    Ok(Symbol {
+        name: Name::new(Vec::from_slice(alloc, text)?),
+        value,
+        size: 0,
+        bind,
+        kind,
+        other: 0,
+        home,
+    })
+}
+
+// A function of these halfwords, in which calls of another function stand at some offsets.
+fn function(alloc: Global, halves: &[u16], calls: &[u32]) -> Result<Option<Object>, AllocError> {
+    let mut bytes = Vec::new(alloc);
+    let mut size = 0u32;
+    for half in halves {
+        bytes.extend_from_slice(&half.to_le_bytes())?;
+        size = size.wrapping_add(2);
+    }
+    let text = Section {
+        name: Name::new(Vec::from_slice(alloc, b".text")?),
+        kind: 1,
+        flags: 6,
+        align: 4,
+        entry: 0,
+        size,
+        bytes: Bytes::new(bytes),
+    };
+    let symbols = vec![in alloc;
+        symbol(alloc, b"$t", 0, 0, 0, Home::Section(0))?,
+        symbol(alloc, b"f", 1, 1, 2, Home::Section(0))?,
+        symbol(alloc, b"g", 0, 1, 0, Home::Undefined)?,
+    ]?;
+    let mut relocs = Vec::new(alloc);
+    for offset in calls {
+        relocs.push(Reloc {
+            section: 0,
+            offset: *offset,
+            kind: RelocKind::ThmCall,
+            symbol: 2,
+        })?;
+    }
+    Ok(object(vec![in alloc; text]?, symbols, relocs, 0x0500_0000))
+}
+
+// The sets of the flow that is recovered from a function.
+fn recovered_sets(
+    rt: &impl Abort,
+    alloc: Global,
+    halves: &[u16],
+    calls: &[u32],
+) -> Result<Vec<(u32, u32)>, Deny> {
+    let o = function(alloc, halves, calls)?.expect(rt, "an object");
+    assert!(rt; within(&o, &Limit::ANY));
+    sets_in(rt, alloc, &recover(alloc, &o)?, &usual())
+}
+
+#[test]
+fn tells_a_recovered_function(rt: HostRuntime) {
+    let sets = recovered_sets(&rt, rt.alloc(), &[0x2005, 0x4770], &[]).expect(&rt, "sets");
+    let wanted = [(0x6ffe, 0x6fff), (0x6fff, 0x2fff)];
+    assert_eq!(rt; sets.as_slice(), wanted.as_slice());
+}
+
+#[test]
+fn refuses_recovered_functions(rt: HostRuntime) {
+    // r12 is read behind a call; a flag is read before anything sets it.
+    let cases: [(&[u16], &[u32], Refusal, u32); 2] = [
+        (
+            &[0xB510, 0xF7FF, 0xFFFE, 0x4660, 0xBD10],
+            &[2],
+            Refusal::LiveAtReturn { register: 12 },
+            2,
+        ),
+        (
+            &[0xBF08, 0x2001, 0x4770],
+            &[],
+            Refusal::LiveAtEntry { register: 17 },
+            0,
+        ),
+    ];
+    for (halves, calls, refusal, offset) in cases {
+        let why = recovered_sets(&rt, rt.alloc(), halves, calls).expect_err(&rt, "a refusal");
+        let spot = Spot {
+            refusal,
+            file: 0,
+            section: 0,
+            offset,
+        };
+        assert_eq!(rt; why, Deny::Refused(spot));
+    }
 }
