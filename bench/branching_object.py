@@ -3,6 +3,8 @@ calls the next function by a relocation, and an IT block; the last calls itself.
 import struct
 import sys
 
+from object_file import table, write
+
 FUNCTION = [
     0xB510,  # push {r4, lr}
     0x2400,  # movs r4, #0
@@ -20,15 +22,6 @@ FUNCTION = [
 ]
 
 
-def table(names):
-    text, places = b"\0", {}
-    for name in names:
-        if name and name not in places:
-            places[name] = len(text)
-            text += name + b"\0"
-    return text, places
-
-
 def main():
     size = 2 * len(FUNCTION)
     count = max(1, int(sys.argv[1]) // size)
@@ -43,18 +36,7 @@ def main():
         struct.pack("<II", size * k + 6, first + min(k + 1, count - 1) << 8 | 10) for k in range(count))
     heads = [(b".text", 1, 6, text, 0, 0, 4, 0), (b".rel.text", 9, 0, rel, 3, 1, 4, 8),
              (b".symtab", 2, 0, symtab, 4, first, 4, 16), (b".strtab", 3, 0, strtab, 0, 0, 1, 0)]
-    shstrtab, places = table([h[0] for h in heads] + [b".shstrtab"])
-    heads.append((b".shstrtab", 3, 0, shstrtab, 0, 0, 1, 0))
-    body, rows = b"", bytes(40)
-    for name, kind, flags, content, link, info, align, entry in heads:
-        body += bytes(-(52 + len(body)) % align)
-        rows += struct.pack("<10I", places[name], kind, flags, 0, 52 + len(body), len(content), link, info, align, entry)
-        body += content
-    body += bytes(-(52 + len(body)) % 4)
-    header = b"\x7fELF\x01\x01\x01" + bytes(9) + struct.pack(
-        "<HHIIIIIHHHHHH", 1, 40, 1, 0, 0, 52 + len(body), 0x05000000, 52, 0, 0, 40, len(heads) + 1, len(heads))
-    with open(sys.argv[2], "wb") as out:
-        out.write(header + body + rows)
+    write(heads, sys.argv[2])
 
 
 main()

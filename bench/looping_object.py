@@ -3,6 +3,8 @@ behind it functions of 1 KiB that nothing calls, up to so many bytes of code. Us
 import struct
 import sys
 
+from object_file import table, write
+
 LOOP = [
     0x3103,  # adds r1, #3
     0x460A,  # mov r2, r1
@@ -19,15 +21,6 @@ LEAVE = [0x4608, 0x4770]  # mov r0, r1; bx lr
 MORE = [0x1840, 0x4048] * 255 + [0x46C0, 0x4770]  # adds r0, r0, r1; eors r0, r1; ..; nop; bx lr
 
 
-def table(names):
-    text, places = b"\0", {}
-    for name in names:
-        if name and name not in places:
-            places[name] = len(text)
-            text += name + b"\0"
-    return text, places
-
-
 def main():
     halves, functions = LOOP + LEAVE, [(b"f", 0, 2 * len(LOOP + LEAVE))]
     while 2 * len(halves) < int(sys.argv[1]):
@@ -40,18 +33,7 @@ def main():
         struct.pack("<IIIBBH", at[name], start + 1, size, 1 << 4 | 2, 0, 1) for name, start, size in functions)
     heads = [(b".text", 1, 6, text, 0, 0, 4, 0), (b".symtab", 2, 0, symtab, 3, 2, 4, 16),
              (b".strtab", 3, 0, strtab, 0, 0, 1, 0)]
-    shstrtab, places = table([h[0] for h in heads] + [b".shstrtab"])
-    heads.append((b".shstrtab", 3, 0, shstrtab, 0, 0, 1, 0))
-    body, rows = b"", bytes(40)
-    for name, kind, flags, content, link, info, align, entry in heads:
-        body += bytes(-(52 + len(body)) % align)
-        rows += struct.pack("<10I", places[name], kind, flags, 0, 52 + len(body), len(content), link, info, align, entry)
-        body += content
-    body += bytes(-(52 + len(body)) % 4)
-    header = b"\x7fELF\x01\x01\x01" + bytes(9) + struct.pack(
-        "<HHIIIIIHHHHHH", 1, 40, 1, 0, 0, 52 + len(body), 0x05000000, 52, 0, 0, 40, len(heads) + 1, len(heads))
-    with open(sys.argv[2], "wb") as out:
-        out.write(header + body + rows)
+    write(heads, sys.argv[2])
 
 
 main()
