@@ -155,8 +155,8 @@ fn earlier(first: Option<Spot>, spot: Spot) -> Spot
     }
 }
 
-/// The first of them by section, offset and number, if there is one.
-pub(crate) fn first_of(spots: &[Spot]) -> Option<Spot>
+/// The first of several refusals by section, offset and number, if there is one.
+pub fn first_of(spots: &[Spot]) -> Option<Spot>
     ensures { IsFirst spots.now result }
 {
     let mut first: Option<Spot> = None;

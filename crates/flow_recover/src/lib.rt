@@ -30,6 +30,7 @@ mod spans;
 mod starts;
 mod values;
 
+pub use faults::first_of;
 pub use flows::{Exit, Flow, Point, PoolWord};
 pub use instructions::{decode_at, length_at, state_behind};
 pub use kinds::may_fail;

@@ -1,30 +1,9 @@
--- Elements of lists by their numbers, and what is picked from them.
-use Rattle.std.proofs.Common.{◌≡◌, ℕ, zero, suc, List, [], ◌∷◌, ◌++◌, refl, sym, ap, ◌∙◌, subst, inl, inr, ◌⊎◌, arith, Option, Some, None}
-use Rattle.std.specs.Prelude.{Contains, slice_get}
+-- What is picked from lists.
+use Rattle.std.proofs.Common.{◌≡◌, List, [], ◌∷◌, ◌++◌, refl, sym, ap, ◌∙◌, subst, inl, inr, Option, Some, None}
+use Rattle.std.specs.Prelude.{Contains}
 use Rattle.std.specs.Option.{option_to_list}
-use Rattle.std.proofs.lemmas.Option.{none-some, same_Some, slice_get-get_or}
+pub use Rattle.flow_recover.proofs.Elements.{contains_cases, contains_here, contains_later, contains_none, place_of, contains_at}
 use Rattle.liveness.specs.Spots.{picked}
-
-pub contains_cases : {X : Type 0} (x : X) (xs : List X) (y : X) → Contains (x ∷ xs) y → (x ≡ y) ⊎ Contains xs y
-contains_cases x xs y (zero, l, e) = inl e
-contains_cases x xs y (suc k, l, e) = inr (k, omega arith, e)
-
-pub contains_here : {X : Type 0} (x : X) (xs : List X) → Contains (x ∷ xs) x
-contains_here x xs = (zero, omega arith, refl)
-
-pub contains_later : {X : Type 0} (x : X) (xs : List X) (y : X) → Contains xs y → Contains (x ∷ xs) y
-contains_later x xs y (k, l, e) = (suc k, omega arith, e)
-
-pub contains_none : {X : Type 0} (y : X) → Contains [] y → ⊥
-contains_none y (k, l, e) = omega arith
-
-pub place_of : {X : Type 0} (xs : List X) (x : X) → Contains xs x → (i : ℕ) × (slice_get xs i ≡ Some x)
-place_of xs x (i, l, e) = (i, slice_get-get_or xs i x l ∙ ap (λ (y : _). Some y) e)
-
-pub contains_at : {X : Type 0} (xs : List X) (i : ℕ) (x : X) → slice_get xs i ≡ Some x → Contains xs x
-contains_at [] i x e = absurd (none-some x e)
-contains_at (y ∷ xs) zero x e = subst (λ (z : _). Contains (y ∷ xs) z) (same_Some y x e) (contains_here y xs)
-contains_at (y ∷ xs) (suc i) x e = contains_later y xs x (contains_at xs i x e)
 
 pub picked_is : {X Y : Type 0} (f : X → Option Y) (xs : List X) (y : Y) → Contains (picked f xs) y → (x : X) × Contains xs x × (f x ≡ Some y)
 picked_is f [] y h = absurd (contains_none y h)

@@ -3,7 +3,6 @@ pub mod PointFacts
 pub mod PathFacts
 pub mod RoomFacts
 pub mod SweepFacts
-pub mod SpotFacts
 pub mod Elements
 pub mod LowestFacts
 pub mod FaultFacts

@@ -4,11 +4,11 @@ ghost use Rattle.std.specs.Prelude.{◌≡◌, IfOk, IfErr};
 ghost use Rattle.liveness.specs.Paths.{NamesPoints};
 ghost use Rattle.liveness.specs.Faults.{AreLive, IsLiveDenial};
 
-use crate::spots::{first_of, spots_of};
+use crate::spots::spots_of;
 use crate::sweeps::settled;
 use crate::{Boundary, Live};
 use elf_model::Deny;
-use flow_recover::Flow;
+use flow_recover::{Flow, first_of};
 use std::alloc::Global;
 
 /// The members that are live before each point. Refuses `LiveAtEntry`, at an entry before which r12 or

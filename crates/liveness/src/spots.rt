@@ -2,8 +2,7 @@
 
 ghost use Rattle.std.specs.Prelude.{◌≡◌, ◌<◌, ◌++◌, IfOk, OnOk, All, Contains, length, slice_get, Some, ℕ};
 ghost use Rattle.elf_model.specs.declared.refusals.Refusal.{Refusal};
-ghost use Rattle.flow_recover.specs.CodeRanges.{comes_before};
-ghost use Rattle.flow_recover.specs.Spots.{spot_of, earlier, IsFirst};
+ghost use Rattle.flow_recover.specs.Spots.{spot_of};
 ghost use Rattle.liveness.specs.Paths.{NamesPoints};
 ghost use Rattle.liveness.specs.Spots.{first_member, entry_spot, is_call, first_after, spot_at_call, call_spot, picked, all_spots};
 
@@ -122,33 +121,4 @@ pub(crate) fn spots_of(alloc: Global, f: &Flow, sets: &Live) -> Result<Vec<Spot>
     push_entries(&mut spots, f, sets)?;
     push_calls(&mut spots, f, sets)?;
     Ok(spots)
-}
-
-fn comes_before(a: Spot, b: Spot) -> bool
-    ensures { result ≡ comes_before a.refusal a.section a.offset b }
-{
-    a.section < b.section
-        || (a.section == b.section
-            && (a.offset < b.offset
-                || (a.offset == b.offset && a.refusal.number() < b.refusal.number())))
-}
-
-fn earlier(first: Option<Spot>, spot: Spot) -> Spot
-    ensures { result ≡ earlier first spot }
-{
-    match first {
-        None => spot,
-        Some(old) => if comes_before(spot, old) { spot } else { old },
-    }
-}
-
-/// The first of them by section, offset and number, if there is one.
-pub(crate) fn first_of(spots: &[Spot]) -> Option<Spot>
-    ensures { IsFirst spots.now result }
-{
-    let mut first: Option<Spot> = None;
-    for s in spots {
-        first = Some(earlier(first, *s));
-    }
-    first
 }
