@@ -1,4 +1,4 @@
-mod SpotFacts
+pub mod SpotFacts
 mod KindFacts
 pub mod ObjectFacts
 mod PlaceOrder
@@ -39,3 +39,5 @@ mod EntryFacts
 pub mod EntryIndexes
 pub mod WholeFlowFacts
 pub mod FlowEdges
+pub mod InOrder
+pub mod OneFlow

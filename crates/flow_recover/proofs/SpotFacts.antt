@@ -22,6 +22,16 @@ before_flip a b c d e f p = grind (arith, nat_tests)
 pub before_itself : (a b c : ℕ) → before a b c a b c ≡ false
 before_itself a b c = grind (arith, nat_tests)
 
+-- two places neither of which is before the other are one
+pub tied_section : (a b c d e f : ℕ) → before a b c d e f ≡ false → before d e f a b c ≡ false → a ≡ d
+tied_section a b c d e f p q = grind (arith, nat_tests)
+
+pub tied_offset : (a b c d e f : ℕ) → before a b c d e f ≡ false → before d e f a b c ≡ false → b ≡ e
+tied_offset a b c d e f p q = grind (arith, nat_tests)
+
+pub tied_number : (a b c d e f : ℕ) → before a b c d e f ≡ false → before d e f a b c ≡ false → c ≡ f
+tied_number a b c d e f p q = grind (arith, nat_tests)
+
 -- one more spot
 pub first_push : (xs : List Spot) (first : Option Spot) (s : Spot) → IsFirst xs first → IsFirst (xs ++ s ∷ []) (Some (earlier first s))
 first_push xs None s h =

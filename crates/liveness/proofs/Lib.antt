@@ -7,3 +7,4 @@ pub mod Elements
 pub mod LowestFacts
 pub mod FaultFacts
 pub mod RecoveredFlows
+pub mod OneAnswer

@@ -1,14 +1,26 @@
 //! Laws of recovered flows. The functions do nothing: their contracts are the laws.
 
-ghost use Rattle.std.specs.Prelude.{IsTrue};
+ghost use Rattle.std.specs.Prelude.{◌≡◌, IsTrue};
+ghost use Rattle.elf_model.specs.declared.refusals.Deny.TheVariants.{Refused};
+ghost use Rattle.elf_model.specs.declared.refusals.Spot.{Spot};
 ghost use Rattle.elf_model.specs.Objects.{ObjectParts, is_within};
 ghost use Rattle.flow_recover.specs.Flows.{FlowParts};
 ghost use Rattle.flow_recover.specs.WholeFlows.{IsFlow};
+ghost use Rattle.liveness.specs.declared.boundary.Boundary.{Boundary};
+ghost use Rattle.liveness.specs.Faults.{AreLive, IsLiveDenial};
 ghost use Rattle.liveness.specs.Paths.{NamesPoints};
+ghost use Rattle.liveness.specs.Sets.{LiveParts};
 
 use elf_model::Limit;
 
 /// Each flow that `recover` gives can be asked about.
 pub fn recovered_flows_name_points()
     ensures { (o : ObjectParts) (f : FlowParts) → IsTrue (is_within o Limit.ANY) → IsFlow o f → NamesPoints f }
+{}
+
+/// A flow has one list of sets at most, and a recovered one is refused for one reason.
+pub fn points_have_one_live_set()
+    ensures one { (f : FlowParts) (b : Boundary) (l m : LiveParts) → AreLive f b l → AreLive f b m → l.sets ≡ m.sets }
+    ensures refused { (o : ObjectParts) (f : FlowParts) (b : Boundary) (s t : Spot) → IsFlow o f → IsLiveDenial f b (Refused s) → IsLiveDenial f b (Refused t) → s ≡ t }
+    ensures apart { (f : FlowParts) (b : Boundary) (l : LiveParts) (s : Spot) → AreLive f b l → ¬ IsLiveDenial f b (Refused s) }
 {}

@@ -11,7 +11,7 @@ mod spots;
 mod sweeps;
 
 pub use boundary::Boundary;
-pub use laws::recovered_flows_name_points;
+pub use laws::{points_have_one_live_set, recovered_flows_name_points};
 pub use liveness::live;
 pub use sets::Live;
 
