@@ -1,7 +1,12 @@
--- Whatever halfwords stand for is formed, a lemma a row.
-use Rattle.std.proofs.Common.{◌≡◌, ℕ, zero, suc, ◌+◌, ◌-◌, ◌*◌, ◌^◌, Bool, true, false, List, [], ◌∷◌, Option, Some, None, Ok, Err, refl, subst, ℤ}
-use Rattle.std.specs.Prelude.{◌||◌, ⊤, if◌then◌else◌}
+-- What is told of the answers of rows: they are formed, do not both read and set C, and need not be of two halfwords.
+use Rattle.std.proofs.Common.{◌≡◌, ◌≤◌, ◌<◌, ◌≢◌, ℕ, zero, suc, ◌+◌, ◌-◌, ◌*◌, ◌/◌, ◌%◌, ◌^◌, Bool, true, false, List, [], ◌∷◌, Option, Some, None, Ok, Err, refl, sym, ◌∙◌, subst, arith, lit≤, ℤ}
+use Rattle.std.specs.Prelude.{◌==◌, ◌&&◌, ◌||◌, not, ⊤, if◌then◌else◌}
+use Rattle.std.proofs.Math.Nat.{mod-lt}
+use Rattle.std.proofs.lemmas.Nat.{pow_pos}
+use Rattle.std.proofs.lemmas.Bool.{true≢false, eqb-false}
+use Rattle.std.proofs.lemmas.Bool.Decides.{nat_tests}
 use Rattle.mark_word.specs.declared.numbers.Shift.{Shift}
+use Rattle.mark_word.specs.declared.numbers.Shift.TheVariants.{Lsl, Lsr, Asr, Ror, Rrx}
 use Rattle.thumb_instr.specs.declared.operations.AluOp.{AluOp}
 use Rattle.thumb_instr.specs.declared.operations.MoveOp.{MoveOp}
 use Rattle.thumb_instr.specs.declared.operations.TestOp.{TestOp}
@@ -12,6 +17,7 @@ use Rattle.thumb_instr.specs.declared.operations.LongMulOp.{LongMulOp}
 use Rattle.thumb_instr.specs.declared.operations.AccessOp.{AccessOp}
 use Rattle.thumb_instr.specs.declared.operations.NothingOp.{NothingOp}
 use Rattle.thumb_instr.specs.declared.operands.Operand.{Operand}
+use Rattle.thumb_instr.specs.declared.operands.Operand.TheVariants.{Imm, Reg}
 use Rattle.thumb_instr.specs.declared.places.Place.{Place}
 use Rattle.thumb_instr.specs.declared.places.PairIndex.{PairIndex}
 use Rattle.thumb_instr.specs.declared.conditions.Cond.{Cond}
@@ -19,604 +25,217 @@ use Rattle.thumb_instr.specs.declared.refusals.BadInstr.{BadInstr}
 use Rattle.thumb_instr.specs.declared.refusals.BadInstr.TheVariants.{PcOperand}
 use Rattle.thumb_instr.specs.declared.refusals.ItPlace.{ItPlace}
 use Rattle.thumb_instr.specs.declared.instructions.Instr.{Instr}
+use Rattle.thumb_instr.specs.declared.instructions.Instr.TheVariants as instr
 use Rattle.thumb_instr.specs.Operands.{is_operand, is_list}
 use Rattle.thumb_instr.specs.Patterns.{Bits, Fixed, Field, Made, Row, Answer, cut, fits, filled_in, decoded, refused}
 use Rattle.thumb_instr.specs.Meanings.{on_condition, when, alu, move, test, shift_by, wide, half, field, unary, mul, mul_acc, long_mul, div, access, pair, multi, literal, adr, branch, zero_branch, call, jump, call_reg, it, nothing, trap}
-use Rattle.thumb_instr.specs.DataRows.{alu_row, move_row, test_row, or_test, or_move, data_processing}
+use Rattle.thumb_instr.specs.DataRows.{names, is_rrx, reads_carry, shifted, alu_row, move_row, test_row, or_test, or_move, data_processing}
 use Rattle.thumb_instr.specs.HalfRows.{half_rows}
-use Rattle.thumb_instr.specs.FullRows.{many, two_words, exclusive, dual, wide_row, extract, insert, on_condition_branch, on_access, access_row, by_byte, by_register, product, full_rows}
+use Rattle.thumb_instr.specs.FullRows.{on_plain, many, two_words, exclusive, dual, wide_row, extract, insert, on_condition_branch, on_access, access_row, by_byte, by_register, product, full_rows}
 use Rattle.thumb_instr.specs.Rows.{is_wide, decode}
-use Rattle.thumb_instr.specs.Formed.{IsFormed}
+use Rattle.thumb_instr.specs.Formed.{IsRegister, IsSource, OperandNamesRegisters, PlaceNamesRegisters, IsFormed, LoadsPc, is_always_wide}
 
--- an answer that is formed, if it is an instruction
-pub record Good (a : Answer) : Type 0 where
-  pub formed : (i : Instr) → a ≡ Ok i → IsFormed i
+-- The instruction uses the carry, and sets flags where it may set C.
+abbrev pub carries : Instr → Bool
+carries (instr.Alu i) = i.s && (reads_carry i.op || is_rrx i.x)
+carries (instr.Move i) = i.s && is_rrx i.x
+carries (instr.Test i) = is_rrx i.x
+carries i = false
 
-ok_good : (i : Instr) → IsFormed i → Good (Ok i)
-ok_good i f = record { formed = λ j e. let k : i ≡ j = cc in subst IsFormed k f }
+pub record Told (wide : Bool) (i : Instr) : Type 0 where
+  pub formed : IsFormed i
+  pub carry : carries i ≡ false
+  pub short : wide ≡ false → is_always_wide i ≡ false
 
-err_good : (k : BadInstr) → Good (Err k)
-err_good k = record { formed = λ j e. cc }
+-- an answer that is told of, if it is an instruction
+pub record Good (wide : Bool) (a : Answer) : Type 0 where
+  pub told : (i : Instr) → a ≡ Ok i → Told wide i
 
-if_good : (b : Bool) (x y : Answer) → Good x → Good y → Good (if b then x else y)
-if_good true x y g h = g
-if_good false x y g h = h
+ok_good : (w : Bool) (i : Instr) → Told w i → Good w (Ok i)
+ok_good w i f = record { told = λ j e. let k : i ≡ j = cc in subst (Told w) k f }
 
-when_good : (b : Bool) (i : Instr) → (b ≡ true → IsFormed i) → Good (when b i)
-when_good true i f = ok_good i (f refl)
-when_good false i f = err_good _
+pub err_good : (w : Bool) (k : BadInstr) → Good w (Err k)
+err_good w k = record { told = λ j e. cc }
 
-refused_good : (rs : List (Bool × BadInstr)) (a : Answer) → Good a → Good (refused rs a)
-refused_good [] a g = g
-refused_good (r ∷ rs) a g = if_good r.0 (Err r.1) (refused rs a) (err_good r.1) (refused_good rs a g)
+pub if_good : (w b : Bool) (x y : Answer) → (b ≡ true → Good w x) → (b ≡ false → Good w y) → Good w (if b then x else y)
+if_good w true x y g h = g refl
+if_good w false x y g h = h refl
 
-on_condition_good : (c : Option Cond) (f : Cond → Answer) → ((c : Cond) → Good (f c)) → Good (on_condition c f)
-on_condition_good None f g = err_good _
-on_condition_good (Some c) f g = g c
+-- Where one of some tests holds, a row refuses.
+pub if_two_good : (w a b : Bool) (k : BadInstr) (y : Answer) → (a ≡ false → b ≡ false → Good w y) → Good w (if a || b then Err k else y)
+if_two_good w true b k y g = err_good w k
+if_two_good w false true k y g = err_good w k
+if_two_good w false false k y g = g refl refl
 
-alu_good : (op : AluOp) (s : Bool) (d n : ℕ) (x : Operand) → Good (alu op s d n x)
-alu_good op s d n x = when_good (is_operand x) _ (λ e. e)
+pub if_three_good : (w a b c : Bool) (k : BadInstr) (y : Answer) → (a ≡ false → b ≡ false → c ≡ false → Good w y) → Good w (if a || b || c then Err k else y)
+if_three_good w true b c k y g = err_good w k
+if_three_good w false true c k y g = err_good w k
+if_three_good w false false true k y g = err_good w k
+if_three_good w false false false k y g = g refl refl refl
 
-move_good : (op : MoveOp) (s : Bool) (d : ℕ) (x : Operand) → Good (move op s d x)
-move_good op s d x = when_good (is_operand x) _ (λ e. e)
+when_good : (w b : Bool) (i : Instr) → (b ≡ true → Told w i) → Good w (when b i)
+when_good w true i f = ok_good w i (f refl)
+when_good w false i f = err_good w _
 
-test_good : (op : TestOp) (n : ℕ) (x : Operand) → Good (test op n x)
-test_good op n x = when_good (is_operand x) _ (λ e. e)
+pub on_condition_good : (w : Bool) (c : Option Cond) (f : Cond → Answer) → ((c : Cond) → Good w (f c)) → Good w (on_condition c f)
+on_condition_good w None f g = err_good w _
+on_condition_good w (Some c) f g = g c
 
-multi_good : (load down back : Bool) (n list : ℕ) (pc : Bool) → (pc ≡ true → load ≡ true) → Good (multi load down back n list pc)
-multi_good load down back n list pc f = when_good (is_list list pc) _ (λ e. (e, f))
+pub first_none : (a b : Bool) → (a || b) ≡ false → a ≡ false
+first_none true b e = e
+first_none false b e = refl
 
-shift_by_good : (kind : Shift) (s : Bool) (d n m : ℕ) → Good (shift_by kind s d n m)
-shift_by_good kind s d n m = when_good _ _ (λ e. e)
+pub second_none : (a b : Bool) → (a || b) ≡ false → b ≡ false
+second_none true b e = (cc)
+second_none false b e = e
 
-wide_good : (op : WideOp) (d n imm : ℕ) → Good (wide op d n imm)
-wide_good op d n imm = when_good _ _ (λ e. e)
+-- registers
 
-half_word_good : (top : Bool) (d imm : ℕ) → Good (half top d imm)
-half_word_good top d imm = ok_good _ tt
+pub low_register : (k : ℕ) → k < 2 ^ 3 → IsRegister k
+low_register k low = omega arith
 
-field_good : (op : FieldOp) (d : ℕ) (n : Option ℕ) (lsb width : ℕ) → Good (field op d n lsb width)
-field_good op d n lsb width = when_good _ _ (λ e. e)
+pub register_but_pc : (k : ℕ) → k < 2 ^ 4 → (k == 15) ≡ false → IsRegister k
+register_but_pc k low other = let apart = eqb-false k 15 other in grind arith
 
-unary_good : (op : UnaryOp) (d m turn : ℕ) → Good (unary op d m turn)
-unary_good op d m turn = when_good _ _ (λ e. e)
+pub stack_register : IsRegister 13
+stack_register = lit≤ tt
 
-mul_good : (s : Bool) (d n m : ℕ) → Good (mul s d n m)
-mul_good s d n m = ok_good _ tt
+pub in_two_parts : (high low : ℕ) → high < 2 ^ 1 → low < 2 ^ 3 → 8 * high + low < 2 ^ 4
+in_two_parts high low a b = omega arith
 
-mul_acc_good : (minus : Bool) (d n m a : ℕ) → Good (mul_acc minus d n m a)
-mul_acc_good minus d n m a = ok_good _ tt
+pub no_register : ⊤
+no_register = tt
 
-long_mul_good : (op : LongMulOp) (lo hi n m : ℕ) → Good (long_mul op lo hi n m)
-long_mul_good op lo hi n m = when_good _ _ (λ e. e)
+-- an operand whose register has four bits
+abbrev pub IsNear : Operand → Type 0
+IsNear (Imm i) = ⊤
+IsNear (Reg m kind amount) = m < 2 ^ 4
 
-div_good : (signed : Bool) (d n m : ℕ) → Good (div signed d n m)
-div_good signed d n m = ok_good _ tt
+pub near_named : (x : Operand) → IsNear x → names 15 x ≡ false → OperandNamesRegisters x
+unfolding names
+near_named (Imm i) near other = tt
+near_named (Reg m kind amount) near other = register_but_pc m near other
 
-access_good : (op : AccessOp) (t n : ℕ) (place : Place) → Good (access op t n place)
-access_good op t n place = when_good _ _ (λ e. e)
+if_near : (b : Bool) (x y : Operand) → IsNear x → IsNear y → IsNear (if b then x else y)
+if_near true x y n o = n
+if_near false x y n o = o
 
-pair_good : (load : Bool) (t u n : ℕ) (up : Bool) (imm : ℕ) (index : PairIndex) → Good (pair load t u n up imm index)
-pair_good load t u n up imm index = when_good _ _ (λ e. e)
+pub shifted_near : (m k i : ℕ) → m < 2 ^ 4 → IsNear (shifted m k i)
+unfolding shifted
+shifted_near m k i h = if_near (k == 0) _ _ h (if_near (k == 1) _ _ h (if_near (k == 2) _ _ h (if_near (i == 0) _ _ h h)))
 
-literal_good : (t : ℕ) (up : Bool) (imm : ℕ) → Good (literal t up imm)
-literal_good t up imm = when_good _ _ (λ e. e)
+-- no flags are set, or the operation has no carry to read
+pub no_flags : (t : Bool) → (false && t) ≡ false
+no_flags t = refl
 
-adr_good : (d : ℕ) (up : Bool) (imm : ℕ) → Good (adr d up imm)
-adr_good d up imm = when_good _ _ (λ e. e)
+pub no_carry : (s : Bool) → (s && false) ≡ false
+no_carry true = refl
+no_carry false = refl
 
-branch_good : (cond : Cond) (offset : ℤ) → Good (branch cond offset)
-branch_good cond offset = when_good _ _ (λ e. e)
+pub not_set : (s t : Bool) → s ≡ false → (s && t) ≡ false
+not_set true t e = (cc)
+not_set false t e = refl
 
-zero_branch_good : (nonzero : Bool) (n offset : ℕ) → Good (zero_branch nonzero n offset)
-zero_branch_good nonzero n offset = when_good _ _ (λ e. e)
+-- instructions
 
-call_good : (offset : ℤ) → Good (call offset)
-call_good offset = when_good _ _ (λ e. e)
+pub alu_good : (w : Bool) (op : AluOp) (s : Bool) (d n : ℕ) (x : Operand) → IsRegister d → IsRegister n → OperandNamesRegisters x → (s && (reads_carry op || is_rrx x)) ≡ false → Good w (alu op s d n x)
+alu_good w op s d n x hd hn hx c = when_good w (is_operand x) _ (λ e. record { formed = record { registers = (hd, hn, hx); fields = e; pc = tt }; carry = c; short = λ _. refl })
 
-jump_good : (m : ℕ) → Good (jump m)
-jump_good m = ok_good _ tt
+pub move_good : (w : Bool) (op : MoveOp) (s : Bool) (d : ℕ) (x : Operand) → IsRegister d → OperandNamesRegisters x → (s && is_rrx x) ≡ false → Good w (move op s d x)
+move_good w op s d x hd hx c = when_good w (is_operand x) _ (λ e. record { formed = record { registers = (hd, hx); fields = e; pc = tt }; carry = c; short = λ _. refl })
 
-call_reg_good : (m : ℕ) → Good (call_reg m)
-call_reg_good m = ok_good _ tt
+pub test_good : (w : Bool) (op : TestOp) (n : ℕ) (x : Operand) → IsRegister n → OperandNamesRegisters x → is_rrx x ≡ false → Good w (test op n x)
+test_good w op n x hn hx c = when_good w (is_operand x) _ (λ e. record { formed = record { registers = (hn, hx); fields = e; pc = tt }; carry = c; short = λ _. refl })
 
-it_good : (first : Cond) (mask : ℕ) → Good (it first mask)
-it_good first mask = when_good _ _ (λ e. e)
+pub multi_good : (w load down back : Bool) (n list : ℕ) (pc : Bool) → IsRegister n → (pc ≡ true → load ≡ true) → Good w (multi load down back n list pc)
+multi_good w load down back n list pc hn f = when_good w (is_list list pc) _ (λ e. record { formed = record { registers = hn; fields = e; pc = f }; carry = refl; short = λ _. refl })
 
-nothing_good : (op : NothingOp) (option : ℕ) → Good (nothing op option)
-nothing_good op option = when_good _ _ (λ e. e)
+pub shift_by_good : (w : Bool) (kind : Shift) (s : Bool) (d n m : ℕ) → IsRegister d → IsRegister n → IsRegister m → Good w (shift_by kind s d n m)
+shift_by_good w kind s d n m hd hn hm = when_good w _ _ (λ e. record { formed = record { registers = (hd, hn, hm); fields = e; pc = tt }; carry = refl; short = λ _. refl })
 
-trap_good : (imm : ℕ) → Good (trap imm)
-trap_good imm = when_good _ _ (λ e. e)
+pub wide_good : (w : Bool) (op : WideOp) (d n imm : ℕ) → IsRegister d → IsRegister n → Good w (wide op d n imm)
+wide_good w op d n imm hd hn = when_good w _ _ (λ e. record { formed = record { registers = (hd, hn); fields = e; pc = tt }; carry = refl; short = λ _. refl })
+
+pub half_word_good : (top : Bool) (d imm : ℕ) → IsRegister d → Good true (half top d imm)
+half_word_good top d imm hd = ok_good true _ (record { formed = record { registers = hd; fields = tt; pc = tt }; carry = refl; short = λ e. absurd (true≢false e) })
+
+pub field_good : (w : Bool) (op : FieldOp) (d : ℕ) (n : Option ℕ) (lsb width : ℕ) → IsRegister d → IsSource n → Good w (field op d n lsb width)
+field_good w op d n lsb width hd hn = when_good w _ _ (λ e. record { formed = record { registers = (hd, hn); fields = e; pc = tt }; carry = refl; short = λ _. refl })
+
+pub unary_good : (w : Bool) (op : UnaryOp) (d m turn : ℕ) → IsRegister d → IsRegister m → Good w (unary op d m turn)
+unary_good w op d m turn hd hm = when_good w _ _ (λ e. record { formed = record { registers = (hd, hm); fields = e; pc = tt }; carry = refl; short = λ _. refl })
+
+pub mul_good : (w : Bool) (s : Bool) (d n m : ℕ) → IsRegister d → IsRegister n → IsRegister m → Good w (mul s d n m)
+mul_good w s d n m hd hn hm = ok_good w _ (record { formed = record { registers = (hd, hn, hm); fields = tt; pc = tt }; carry = refl; short = λ _. refl })
+
+pub mul_acc_good : (w : Bool) (minus : Bool) (d n m a : ℕ) → IsRegister d → IsRegister n → IsRegister m → IsRegister a → Good w (mul_acc minus d n m a)
+mul_acc_good w minus d n m a hd hn hm ha = ok_good w _ (record { formed = record { registers = (hd, hn, hm, ha); fields = tt; pc = tt }; carry = refl; short = λ _. refl })
+
+pub long_mul_good : (w : Bool) (op : LongMulOp) (lo hi n m : ℕ) → IsRegister lo → IsRegister hi → IsRegister n → IsRegister m → Good w (long_mul op lo hi n m)
+long_mul_good w op lo hi n m hlo hhi hn hm = when_good w _ _ (λ e. record { formed = record { registers = (hlo, hhi, hn, hm); fields = e; pc = tt }; carry = refl; short = λ _. refl })
+
+pub div_good : (w : Bool) (signed : Bool) (d n m : ℕ) → IsRegister d → IsRegister n → IsRegister m → Good w (div signed d n m)
+div_good w signed d n m hd hn hm = ok_good w _ (record { formed = record { registers = (hd, hn, hm); fields = tt; pc = tt }; carry = refl; short = λ _. refl })
+
+pub access_good : (w : Bool) (op : AccessOp) (t n : ℕ) (place : Place) → IsRegister t → IsRegister n → PlaceNamesRegisters place → Good w (access op t n place)
+access_good w op t n place ht hn hp = when_good w _ _ (λ e. record { formed = record { registers = (ht, hn, hp); fields = e; pc = tt }; carry = refl; short = λ _. refl })
+
+pub pair_good : (w : Bool) (load : Bool) (t u n : ℕ) (up : Bool) (imm : ℕ) (index : PairIndex) → IsRegister t → IsRegister u → IsRegister n → Good w (pair load t u n up imm index)
+pair_good w load t u n up imm index ht hu hn = when_good w _ _ (λ e. record { formed = record { registers = (ht, hu, hn); fields = e; pc = tt }; carry = refl; short = λ _. refl })
+
+pub literal_good : (w : Bool) (t : ℕ) (up : Bool) (imm : ℕ) → IsRegister t → Good w (literal t up imm)
+literal_good w t up imm ht = when_good w _ _ (λ e. record { formed = record { registers = ht; fields = e; pc = tt }; carry = refl; short = λ _. refl })
+
+pub adr_good : (w : Bool) (d : ℕ) (up : Bool) (imm : ℕ) → IsRegister d → Good w (adr d up imm)
+adr_good w d up imm hd = when_good w _ _ (λ e. record { formed = record { registers = hd; fields = e; pc = tt }; carry = refl; short = λ _. refl })
+
+pub branch_good : (w : Bool) (cond : Cond) (offset : ℤ) → Good w (branch cond offset)
+branch_good w cond offset = when_good w _ _ (λ e. record { formed = record { registers = tt; fields = e; pc = tt }; carry = refl; short = λ _. refl })
+
+pub zero_branch_good : (w : Bool) (nonzero : Bool) (n offset : ℕ) → IsRegister n → Good w (zero_branch nonzero n offset)
+zero_branch_good w nonzero n offset hn = when_good w _ _ (λ e. record { formed = record { registers = hn; fields = e; pc = tt }; carry = refl; short = λ _. refl })
+
+pub call_good : (offset : ℤ) → Good true (call offset)
+call_good offset = when_good true _ _ (λ e. record { formed = record { registers = tt; fields = e; pc = tt }; carry = refl; short = λ e. absurd (true≢false e) })
+
+pub jump_good : (w : Bool) (m : ℕ) → IsRegister m → Good w (jump m)
+jump_good w m hm = ok_good w _ (record { formed = record { registers = hm; fields = tt; pc = tt }; carry = refl; short = λ _. refl })
+
+pub call_reg_good : (w : Bool) (m : ℕ) → IsRegister m → Good w (call_reg m)
+call_reg_good w m hm = ok_good w _ (record { formed = record { registers = hm; fields = tt; pc = tt }; carry = refl; short = λ _. refl })
+
+pub it_good : (w : Bool) (first : Cond) (mask : ℕ) → Good w (it first mask)
+it_good w first mask = when_good w _ _ (λ e. record { formed = record { registers = tt; fields = e; pc = tt }; carry = refl; short = λ _. refl })
+
+pub nothing_good : (w : Bool) (op : NothingOp) (option : ℕ) → Good w (nothing op option)
+nothing_good w op option = when_good w _ _ (λ e. record { formed = record { registers = tt; fields = e; pc = tt }; carry = refl; short = λ _. refl })
+
+pub trap_good : (w : Bool) (imm : ℕ) → Good w (trap imm)
+trap_good w imm = when_good w _ _ (λ e. record { formed = record { registers = tt; fields = e; pc = tt }; carry = refl; short = λ _. refl })
 
 -- rows
 
-abbrev Fill : (ps : List Bits) → Made ps → Type 0
-Fill [] a = Good a
-Fill (Fixed w v ∷ ps) f = Fill ps f
-Fill (Field w ∷ ps) f = (k : ℕ) → Fill ps (f k)
+abbrev pub Fill : Bool → (ps : List Bits) → Made ps → Type 0
+Fill wide [] a = Good wide a
+Fill wide (Fixed w v ∷ ps) f = Fill wide ps f
+Fill wide (Field w ∷ ps) f = (k : ℕ) → k < 2 ^ w → Fill wide ps (f k)
 
-filled_good : (ps : List Bits) (f : Made ps) (top h : ℕ) → Fill ps f → Good (filled_in ps f top h)
-filled_good [] a top h g = g
-filled_good (Fixed w v ∷ ps) f top h g = filled_good ps f (top - w) h g
-filled_good (Field w ∷ ps) f top h g = filled_good ps (f (cut h top w)) (top - w) h (g (cut h top w))
+cut_fits : (h top w : ℕ) → cut h top w < 2 ^ w
+cut_fits h top w = mod-lt (h / 2 ^ (top - w)) {m = 2 ^ w} (pow_pos w)
 
-abbrev AllGood : List Row → Type 0
-AllGood [] = ⊤
-AllGood (r ∷ rows) = Fill r.pattern r.means × AllGood rows
+filled_good : (wide : Bool) (ps : List Bits) (f : Made ps) (top h : ℕ) → Fill wide ps f → Good wide (filled_in ps f top h)
+filled_good wide [] a top h g = g
+filled_good wide (Fixed w v ∷ ps) f top h g = filled_good wide ps f (top - w) h g
+filled_good wide (Field w ∷ ps) f top h g = filled_good wide ps (f (cut h top w)) (top - w) h (g (cut h top w) (cut_fits h top w))
 
-decoded_good : (size : ℕ) (rows : List Row) (h : ℕ) → AllGood rows → Good (decoded size rows h)
-decoded_good size [] h g = err_good _
-decoded_good size (r ∷ rows) h g = if_good (fits r.pattern size h) _ _ (filled_good r.pattern r.means size h g.0) (decoded_good size rows h g.1)
+abbrev pub AllGood : Bool → List Row → Type 0
+AllGood wide [] = ⊤
+AllGood wide (r ∷ rows) = Fill wide r.pattern r.means × AllGood wide rows
 
-ruleset goods = (alu_good, move_good, test_good, shift_by_good, wide_good, half_word_good, field_good, unary_good, mul_good, mul_acc_good, long_mul_good, div_good, access_good, pair_good, literal_good, adr_good, branch_good, zero_branch_good, call_good, jump_good, call_reg_good, it_good, nothing_good, trap_good, err_good, refused_good, on_condition_good, if_good)
+pub decoded_good : (wide : Bool) (size : ℕ) (rows : List Row) (h : ℕ) → AllGood wide rows → Good wide (decoded size rows h)
+decoded_good wide size [] h g = err_good wide _
+decoded_good wide size (r ∷ rows) h g = if_good wide (fits r.pattern size h) _ _ (λ _. filled_good wide r.pattern r.means size h g.0) (λ _. decoded_good wide size rows h g.1)
 
--- lists of words: stores without pc, and loads
-multi_store_good : (load down back : Bool) (n list : ℕ) → Good (multi load down back n list false)
-multi_store_good load down back n list = multi_good load down back n list false (λ e. cc)
+pub ruleset registers = (low_register, register_but_pc, stack_register, in_two_parts, no_register, no_flags, no_carry, not_set)
 
-multi_load_good : (down back : Bool) (n list : ℕ) (pc : Bool) → Good (multi true down back n list pc)
-multi_load_good down back n list pc = multi_good true down back n list pc (λ e. refl)
-
-ruleset multi_goods = (multi_store_good, multi_load_good)
-
-half_good : (place : ItPlace) → AllGood (half_rows place)
-unfolding half_rows
-half_good place = (
-  λ i m d. search goods,
-  (
-    λ i m d. search goods,
-    (
-      λ i m d. search goods,
-      (
-        λ m n d. search goods,
-        (
-          λ m n d. search goods,
-          (
-            λ i n d. search goods,
-            (
-              λ i n d. search goods,
-              (
-                λ d i. search goods,
-                (
-                  λ n i. search goods,
-                  (
-                    λ d i. search goods,
-                    (
-                      λ d i. search goods,
-                      (
-                        λ m d. search goods,
-                        (
-                          λ m d. search goods,
-                          (
-                            λ m d. search goods,
-                            (
-                              λ m d. search goods,
-                              (
-                                λ m d. search goods,
-                                (
-                                  λ m d. search goods,
-                                  (
-                                    λ m d. search goods,
-                                    (
-                                      λ m d. search goods,
-                                      (
-                                        λ m d. search goods,
-                                        (
-                                          λ m d. search goods,
-                                          (
-                                            λ m d. search goods,
-                                            (
-                                              λ m d. search goods,
-                                              (
-                                                λ m d. search goods,
-                                                (
-                                                  λ m d. search goods,
-                                                  (
-                                                    λ m d. search goods,
-                                                    (
-                                                      λ m d. search goods,
-                                                      (
-                                                        λ high m low. search goods,
-                                                        (
-                                                          λ high m low. search goods,
-                                                          (
-                                                            λ high m low. search goods,
-                                                            (
-                                                              λ m. search goods,
-                                                              (
-                                                                λ m. search goods,
-                                                                (
-                                                                  λ t i. search goods,
-                                                                  (
-                                                                    λ m n t. search goods,
-                                                                    (
-                                                                      λ m n t. search goods,
-                                                                      (
-                                                                        λ m n t. search goods,
-                                                                        (
-                                                                          λ m n t. search goods,
-                                                                          (
-                                                                            λ m n t. search goods,
-                                                                            (
-                                                                              λ m n t. search goods,
-                                                                              (
-                                                                                λ m n t. search goods,
-                                                                                (
-                                                                                  λ m n t. search goods,
-                                                                                  (
-                                                                                    λ i n t. search goods,
-                                                                                    (
-                                                                                      λ i n t. search goods,
-                                                                                      (
-                                                                                        λ i n t. search goods,
-                                                                                        (
-                                                                                          λ i n t. search goods,
-                                                                                          (
-                                                                                            λ i n t. search goods,
-                                                                                            (
-                                                                                              λ i n t. search goods,
-                                                                                              (
-                                                                                                λ t i. search goods,
-                                                                                                (
-                                                                                                  λ t i. search goods,
-                                                                                                  (
-                                                                                                    λ d i. search goods,
-                                                                                                    (
-                                                                                                      λ d i. search goods,
-                                                                                                      (
-                                                                                                        λ i. search goods,
-                                                                                                        (
-                                                                                                          λ i. search goods,
-                                                                                                          (
-                                                                                                            λ o i6 i n. search goods,
-                                                                                                            (
-                                                                                                              λ m d. search goods,
-                                                                                                              (
-                                                                                                                λ m d. search goods,
-                                                                                                                (
-                                                                                                                  λ m d. search goods,
-                                                                                                                  (
-                                                                                                                    λ m d. search goods,
-                                                                                                                    (
-                                                                                                                      λ lr list. search (multi_goods, goods),
-                                                                                                                      (
-                                                                                                                        λ pc list. search (multi_goods, goods),
-                                                                                                                        (
-                                                                                                                          λ m d. search goods,
-                                                                                                                          (
-                                                                                                                            λ m d. search goods,
-                                                                                                                            (
-                                                                                                                              λ m d. search goods,
-                                                                                                                              (
-                                                                                                                                λ c mask. search goods,
-                                                                                                                                (
-                                                                                                                                  λ i. search goods,
-                                                                                                                                  (
-                                                                                                                                    λ i. search goods,
-                                                                                                                                    (
-                                                                                                                                      λ n list. search (multi_goods, goods),
-                                                                                                                                      (
-                                                                                                                                        λ n list. search (multi_goods, goods),
-                                                                                                                                        (
-                                                                                                                                          λ c i. search goods,
-                                                                                                                                          (
-                                                                                                                                            λ i. search goods,
-                                                                                                                                            tt,
-                                                                                                                                          ),
-                                                                                                                                        ),
-                                                                                                                                      ),
-                                                                                                                                    ),
-                                                                                                                                  ),
-                                                                                                                                ),
-                                                                                                                              ),
-                                                                                                                            ),
-                                                                                                                          ),
-                                                                                                                        ),
-                                                                                                                      ),
-                                                                                                                    ),
-                                                                                                                  ),
-                                                                                                                ),
-                                                                                                              ),
-                                                                                                            ),
-                                                                                                          ),
-                                                                                                        ),
-                                                                                                      ),
-                                                                                                    ),
-                                                                                                  ),
-                                                                                                ),
-                                                                                              ),
-                                                                                            ),
-                                                                                          ),
-                                                                                        ),
-                                                                                      ),
-                                                                                    ),
-                                                                                  ),
-                                                                                ),
-                                                                              ),
-                                                                            ),
-                                                                          ),
-                                                                        ),
-                                                                      ),
-                                                                    ),
-                                                                  ),
-                                                                ),
-                                                              ),
-                                                            ),
-                                                          ),
-                                                        ),
-                                                      ),
-                                                    ),
-                                                  ),
-                                                ),
-                                              ),
-                                            ),
-                                          ),
-                                        ),
-                                      ),
-                                    ),
-                                  ),
-                                ),
-                              ),
-                            ),
-                          ),
-                        ),
-                      ),
-                    ),
-                  ),
-                ),
-              ),
-            ),
-          ),
-        ),
-      ),
-    ),
-  ),
-)
-
--- data processing
-
-alu_row_good : (op : AluOp) (s : Bool) (n d : ℕ) (x : Operand) → Good (alu_row op s n d x)
-unfolding alu_row
-alu_row_good op s n d x = search goods
-
-move_row_good : (op : MoveOp) (s : Bool) (d : ℕ) (x : Operand) → Good (move_row op s d x)
-unfolding move_row
-move_row_good op s d x = search goods
-
-test_row_good : (op : TestOp) (n : ℕ) (x : Operand) → Good (test_row op n x)
-unfolding test_row
-test_row_good op n x = search goods
-
-ruleset row_goods = (alu_row_good, move_row_good, test_row_good, err_good, if_good)
-
-data_good : (o : ℕ) (s : Bool) (n d : ℕ) (x : Operand) → Good (data_processing o s n d x)
-unfolding data_processing or_test or_move
-data_good zero s n d x = search row_goods
-data_good (suc zero) s n d x = search row_goods
-data_good (suc (suc zero)) s n d x = search row_goods
-data_good (suc (suc (suc zero))) s n d x = search row_goods
-data_good (suc (suc (suc (suc zero)))) s n d x = search row_goods
-data_good (suc (suc (suc (suc (suc zero))))) s n d x = search row_goods
-data_good (suc (suc (suc (suc (suc (suc zero)))))) s n d x = search row_goods
-data_good (suc (suc (suc (suc (suc (suc (suc zero))))))) s n d x = search row_goods
-data_good (suc (suc (suc (suc (suc (suc (suc (suc zero)))))))) s n d x = search row_goods
-data_good (suc (suc (suc (suc (suc (suc (suc (suc (suc zero))))))))) s n d x = search row_goods
-data_good (suc (suc (suc (suc (suc (suc (suc (suc (suc (suc zero)))))))))) s n d x = search row_goods
-data_good (suc (suc (suc (suc (suc (suc (suc (suc (suc (suc (suc zero))))))))))) s n d x = search row_goods
-data_good (suc (suc (suc (suc (suc (suc (suc (suc (suc (suc (suc (suc zero)))))))))))) s n d x = search row_goods
-data_good (suc (suc (suc (suc (suc (suc (suc (suc (suc (suc (suc (suc (suc zero))))))))))))) s n d x = search row_goods
-data_good (suc (suc (suc (suc (suc (suc (suc (suc (suc (suc (suc (suc (suc (suc zero)))))))))))))) s n d x = search row_goods
-data_good (suc (suc (suc (suc (suc (suc (suc (suc (suc (suc (suc (suc (suc (suc (suc zero))))))))))))))) s n d x = search row_goods
-data_good (suc (suc (suc (suc (suc (suc (suc (suc (suc (suc (suc (suc (suc (suc (suc (suc k)))))))))))))))) s n d x = search row_goods
-
--- the rows of two halfwords
-
--- A store with pc is refused.
-no_store : (b : Bool) (rs : List (Bool × BadInstr)) (a : Answer) → Good (refused ((b || true, PcOperand) ∷ rs) a)
-no_store true rs a = err_good PcOperand
-no_store false rs a = err_good PcOperand
-
-many_good : (place : ItPlace) (load down back : Bool) (n list : ℕ) (pc : Bool) → Good (many place load down back n list pc)
-unfolding many
-many_good place true down back n list pc = search (multi_goods, goods)
-many_good place false down back n list false = search (multi_goods, goods)
-many_good place false down back n list true = search no_store
-
-two_words_good : (load : Bool) (t u n : ℕ) (up : Bool) (imm : ℕ) (index : PairIndex) (back : Bool) → Good (two_words load t u n up imm index back)
-unfolding two_words
-two_words_good load t u n up imm index back = search goods
-
-exclusive_good : (u l t s i : ℕ) → Good (exclusive u l t s i)
-unfolding exclusive
-exclusive_good u l t s i = search goods
-
-dual_good : (p u w l n t s i : ℕ) → Good (dual p u w l n t s i)
-unfolding dual
-dual_good p u w l n t s i = search (two_words_good, exclusive_good, if_good)
-
-wide_row_good : (op : WideOp) (up : Bool) (n d imm : ℕ) → Good (wide_row op up n d imm)
-unfolding wide_row
-wide_row_good op up n d imm = search goods
-
-extract_good : (op : FieldOp) (n d lsb w : ℕ) → Good (extract op n d lsb w)
-unfolding extract
-extract_good op n d lsb w = search goods
-
-insert_good : (n d lsb w : ℕ) → Good (insert n d lsb w)
-unfolding insert
-insert_good n d lsb w = search goods depth 7
-
-on_condition_branch_good : (place : ItPlace) (c offset : ℕ) → Good (on_condition_branch place c offset)
-unfolding on_condition_branch
-on_condition_branch_good place c offset = search goods
-
-access_row_good : (op : AccessOp) (t n : ℕ) (place : Place) (back : Bool) → Good (access_row op t n place back)
-unfolding access_row
-access_row_good op t n place back = search goods
-
-by_byte_good : (p u w : ℕ) (op : AccessOp) (n t i : ℕ) → Good (by_byte p u w op n t i)
-unfolding by_byte
-by_byte_good p u w op n t i = search (access_row_good, err_good, if_good)
-
-by_register_good : (op : AccessOp) (n t shift m : ℕ) → Good (by_register op n t shift m)
-unfolding by_register
-by_register_good op n t shift m = search goods
-
-product_good : (n a d m : ℕ) → Good (product n a d m)
-unfolding product
-product_good n a d m = search goods depth 7
-
-on_access_good : (o : Option (Option AccessOp)) (f : AccessOp → Answer) → ((op : AccessOp) → Good (f op)) → Good (on_access o f)
-on_access_good None f g = err_good _
-on_access_good (Some None) f g = err_good _
-on_access_good (Some (Some op)) f g = g op
-
-ruleset full_goods = (many_good, dual_good, data_good, wide_row_good, extract_good, insert_good, on_condition_branch_good, access_row_good, by_byte_good, by_register_good, product_good, on_access_good)
-
-full_good : (place : ItPlace) → AllGood (full_rows place)
-unfolding full_rows
-full_good place = (
-  λ w l n pc lr list. search (full_goods, multi_goods, goods),
-  (
-    λ w l n pc lr list. search (full_goods, multi_goods, goods),
-    (
-      λ p u w l n t s i. search (full_goods, multi_goods, goods),
-      (
-        λ o s n i3 d i2 k m. search (full_goods, multi_goods, goods),
-        (
-          λ i o s n i3 d i8. search (full_goods, multi_goods, goods),
-          (
-            λ i n i3 d i8. search (full_goods, multi_goods, goods),
-            (
-              λ i n i3 d i8. search (full_goods, multi_goods, goods),
-              (
-                λ i i4 i3 d i8. search (full_goods, multi_goods, goods),
-                (
-                  λ i i4 i3 d i8. search (full_goods, multi_goods, goods),
-                  (
-                    λ n i3 d i2 w. search (full_goods, multi_goods, goods),
-                    (
-                      λ n i3 d i2 w. search (full_goods, multi_goods, goods),
-                      (
-                        λ n i3 d i2 w. search (full_goods, multi_goods, goods),
-                        (
-                          λ s i10 j k i11. search (full_goods, multi_goods, goods),
-                          (
-                            λ s i10 j k i11. search (full_goods, multi_goods, goods),
-                            (
-                              search (full_goods, multi_goods, goods),
-                              (
-                                λ i. search (full_goods, multi_goods, goods),
-                                (
-                                  λ option. search (full_goods, multi_goods, goods),
-                                  (
-                                    λ option. search (full_goods, multi_goods, goods),
-                                    (
-                                      λ option. search (full_goods, multi_goods, goods),
-                                      (
-                                        λ i. search (full_goods, multi_goods, goods),
-                                        (
-                                          λ n i. search (full_goods, multi_goods, goods),
-                                          (
-                                            λ i. search (full_goods, multi_goods, goods),
-                                            (
-                                              λ s c i6 j k i11. search (full_goods, multi_goods, goods),
-                                              (
-                                                λ u t i. search (full_goods, multi_goods, goods),
-                                                (
-                                                  search (full_goods, multi_goods, goods),
-                                                  (
-                                                    λ g z l n t i. search (full_goods, multi_goods, goods),
-                                                    (
-                                                      λ g z l n t p u w i. search (full_goods, multi_goods, goods),
-                                                      (
-                                                        λ g z l n t shift m. search (full_goods, multi_goods, goods),
-                                                        (
-                                                          λ k s n d m. search (full_goods, multi_goods, goods),
-                                                          (
-                                                            λ d r m. search (full_goods, multi_goods, goods),
-                                                            (
-                                                              λ d r m. search (full_goods, multi_goods, goods),
-                                                              (
-                                                                λ d r m. search (full_goods, multi_goods, goods),
-                                                                (
-                                                                  λ d r m. search (full_goods, multi_goods, goods),
-                                                                  (
-                                                                    λ n d m. search (full_goods, multi_goods, goods),
-                                                                    (
-                                                                      λ n d m. search (full_goods, multi_goods, goods),
-                                                                      (
-                                                                        λ n d m. search (full_goods, multi_goods, goods),
-                                                                        (
-                                                                          λ n d m. search (full_goods, multi_goods, goods),
-                                                                          (
-                                                                            λ n d m. search (full_goods, multi_goods, goods),
-                                                                            (
-                                                                              λ n a d m. search (full_goods, multi_goods, goods),
-                                                                              (
-                                                                                λ n a d m. search (full_goods, multi_goods, goods),
-                                                                                (
-                                                                                  λ n lo hi m. search (full_goods, multi_goods, goods),
-                                                                                  (
-                                                                                    λ n lo hi m. search (full_goods, multi_goods, goods),
-                                                                                    (
-                                                                                      λ n lo hi m. search (full_goods, multi_goods, goods),
-                                                                                      (
-                                                                                        λ n lo hi m. search (full_goods, multi_goods, goods),
-                                                                                        (
-                                                                                          λ n d m. search (full_goods, multi_goods, goods),
-                                                                                          (
-                                                                                            λ n d m. search (full_goods, multi_goods, goods),
-                                                                                            tt,
-                                                                                          ),
-                                                                                        ),
-                                                                                      ),
-                                                                                    ),
-                                                                                  ),
-                                                                                ),
-                                                                              ),
-                                                                            ),
-                                                                          ),
-                                                                        ),
-                                                                      ),
-                                                                    ),
-                                                                  ),
-                                                                ),
-                                                              ),
-                                                            ),
-                                                          ),
-                                                        ),
-                                                      ),
-                                                    ),
-                                                  ),
-                                                ),
-                                              ),
-                                            ),
-                                          ),
-                                        ),
-                                      ),
-                                    ),
-                                  ),
-                                ),
-                              ),
-                            ),
-                          ),
-                        ),
-                      ),
-                    ),
-                  ),
-                ),
-              ),
-            ),
-          ),
-        ),
-      ),
-    ),
-  ),
-)
-
--- Whatever halfwords stand for is formed.
-pub decode_formed : (place : ItPlace) (first second : ℕ) (i : Instr) → decode place first second ≡ Ok i → IsFormed i
-decode_formed place first second i e =
-    (if_good (is_wide first) _ _ (decoded_good 32 (full_rows place) (first * 2 ^ 16 + second) (full_good place)) (decoded_good 16 (half_rows place) first (half_good place))).formed i e
+pub ruleset goods = (registers, alu_good, move_good, test_good, multi_good, shift_by_good, wide_good, half_word_good, field_good, unary_good, mul_good, mul_acc_good, long_mul_good, div_good, access_good, pair_good, literal_good, adr_good, branch_good, zero_branch_good, call_good, jump_good, call_reg_good, it_good, nothing_good, trap_good, err_good, on_condition_good, if_three_good, if_two_good, if_good)

@@ -1,4 +1,4 @@
-use Rattle.thumb_instr.proofs.Formed.{decode_formed}
+use Rattle.thumb_instr.proofs.Decoded.{decode_formed}
 use Rattle.thumb_instr.proofs.laws.decodes_are_formed.Goals as goal
 
 pub returns : goal.returns
