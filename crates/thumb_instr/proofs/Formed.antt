@@ -232,6 +232,11 @@ abbrev pub AllGood : Bool → List Row → Type 0
 AllGood wide [] = ⊤
 AllGood wide (r ∷ rows) = Fill wide r.pattern r.means × AllGood wide rows
 
+infixr 4 ◌&◌
+-- one row, and the rows behind it
+pub ◌&◌ : {A B : Type 0} → A → B → A × B
+a & b = (a, b)
+
 pub decoded_good : (wide : Bool) (size : ℕ) (rows : List Row) (h : ℕ) → AllGood wide rows → Good wide (decoded size rows h)
 decoded_good wide size [] h g = err_good wide _
 decoded_good wide size (r ∷ rows) h g = if_good wide (fits r.pattern size h) _ _ (λ _. filled_good wide r.pattern r.means size h g.0) (λ _. decoded_good wide size rows h g.1)
