@@ -39,10 +39,3 @@ pub use laws::{objects_have_one_flow, objects_have_one_list_of_ranges};
 pub use ranges::{Range, all_ranges, code_ranges};
 pub use recovery::recover;
 pub use spans::Span;
-
-#[cfg(test)]
-mod made;
-#[cfg(test)]
-mod recovery_tests;
-#[cfg(test)]
-mod tests;

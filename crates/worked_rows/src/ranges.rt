@@ -1,15 +1,17 @@
-use super::*;
-use crate::made::{Row, object_of, section};
+//! Ranges of code and data.
+
+use crate::objects::{Row, object_of, section};
 use elf_model::{Deny, Home, Limit, Object, Refusal, Spot, within};
+use flow_recover::{Range, code_ranges};
 use std::alloc::{AllocError, Global};
 use std::process::Abort;
 
 // Three code sections, of which one is empty, and one of data behind the first.
 fn mixed(alloc: Global, rows: &[Row]) -> Result<Option<Object>, AllocError> {
     let sections = vec![in alloc;
-        section(alloc, b".text", 6, 12, &[0; 12])?,
+        section(alloc, b".text", 6, 4, &[0; 12])?,
         section(alloc, b".rodata", 2, 4, &[0; 4])?,
-        section(alloc, b".none", 6, 0, &[])?,
+        section(alloc, b".none", 6, 4, &[])?,
         section(alloc, b".init", 6, 4, &[112, 71, 0, 191])?,
     ]?;
     object_of(alloc, sections, rows, &[])

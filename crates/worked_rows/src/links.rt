@@ -1,53 +1,16 @@
+//! Images of objects.
+
 ghost use Rattle.std.specs.Prelude.{IsTrue};
 ghost use Rattle.thumb_table.specs.Images.{IsPlacement};
 
-use super::*;
-use elf_model::{
-    Bytes, Deny, Home, Limit, Name, Object, Refusal, Section, Spot, Symbol, object, within,
-};
+use crate::objects::{Row, object_of, section};
+use elf_model::{Deny, Home, Limit, Object, Refusal, Spot, within};
+use flat_link::link;
 use std::alloc::{AllocError, Global};
 use std::process::Abort;
 use thumb_table::{Image, Part, Placement};
 
-fn name(alloc: Global, text: &[u8]) -> Result<Name, AllocError> {
-    Ok(Name::new(Vec::from_slice(alloc, text)?))
-}
-
-fn section(
-    alloc: Global,
-    text: &[u8],
-    flags: u32,
-    align: u32,
-    bytes: &[u8],
-) -> Result<Section, AllocError> {
-    Ok(Section {
-        name: name(alloc, text)?,
-        kind: 1,
-        flags,
-        align,
-        entry: 0,
-        size: (bytes.len() & 0xFFFF) as u32,
-        bytes: Bytes::new(Vec::from_slice(alloc, bytes)?),
-    })
-}
-
-fn symbol(
-    alloc: Global,
-    text: &[u8],
-    value: u32,
-    bind: u8,
-    kind: u8,
-) -> Result<Symbol, AllocError> {
-    Ok(Symbol {
-        name: name(alloc, text)?,
-        value,
-        size: 0,
-        bind,
-        kind,
-        other: 0,
-        home: Home::Section(0),
-    })
-}
+const TEXT: Home = Home::Section(0);
 
 fn hardened(alloc: Global) -> Result<Option<Object>, AllocError> {
     let code = [5, 32, 5, 32, 112, 71, 112, 71];
@@ -55,11 +18,8 @@ fn hardened(alloc: Global) -> Result<Option<Object>, AllocError> {
         section(alloc, b".text", 6, 4, &code)?,
         section(alloc, b".skipguard.map", 0, 4, &[0; 32])?,
     ]?;
-    let symbols = vec![in alloc;
-        symbol(alloc, b"$t", 0, 0, 0)?,
-        symbol(alloc, b"f", 1, 1, 2)?,
-    ]?;
-    Ok(object(sections, symbols, Vec::new(alloc), 0x0500_0000))
+    let rows: [Row; 2] = [(b"$t", 0, 0, 0, TEXT), (b"f", 1, 1, 2, TEXT)];
+    object_of(alloc, sections, &rows, &[])
 }
 
 // Code with data behind it, two definitions of `f`, the first of them weak or global, and one of `g`.
@@ -71,15 +31,15 @@ fn mixed(alloc: Global, first: u8) -> Result<Option<Object>, AllocError> {
         section(alloc, b".data", 3, 4, &[8, 9])?,
         section(alloc, b".init", 6, 8, &[112, 71])?,
     ]?;
-    let symbols = vec![in alloc;
-        symbol(alloc, b"$t", 0, 0, 0)?,
-        symbol(alloc, b"$d.a", 4, 0, 0)?,
-        symbol(alloc, b"$t", 8, 0, 0)?,
-        symbol(alloc, b"f", 1, first, 2)?,
-        symbol(alloc, b"f", 9, 1, 2)?,
-        symbol(alloc, b"g", 1, 2, 2)?,
-    ]?;
-    Ok(object(sections, symbols, Vec::new(alloc), 0x0500_0000))
+    let rows: [Row; 6] = [
+        (b"$t", 0, 0, 0, TEXT),
+        (b"$d.a", 4, 0, 0, TEXT),
+        (b"$t", 8, 0, 0, TEXT),
+        (b"f", 1, first, 2, TEXT),
+        (b"f", 9, 1, 2, TEXT),
+        (b"g", 1, 2, 2, TEXT),
+    ];
+    object_of(alloc, sections, &rows, &[])
 }
 
 fn linked(

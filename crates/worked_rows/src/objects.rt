@@ -1,7 +1,8 @@
-//! Objects for the tests.
+//! Objects of sections, symbols and relocations.
 
 use elf_model::{Bytes, Home, Name, Object, Reloc, RelocKind, Section, Symbol, object};
 use std::alloc::{AllocError, Global};
+use std::process::Abort;
 
 /// A symbol's name, value, binding, type and home.
 pub(crate) type Row = (&'static [u8], u32, u8, u8, Home);
@@ -14,18 +15,31 @@ pub(crate) fn section(
     alloc: Global,
     text: &[u8],
     flags: u32,
-    size: u32,
+    align: u32,
     bytes: &[u8],
 ) -> Result<Section, AllocError> {
     Ok(Section {
         name: Name::new(Vec::from_slice(alloc, text)?),
         kind: 1,
         flags,
-        align: 4,
+        align,
         entry: 0,
-        size,
+        size: (bytes.len() & 0xFFFF) as u32,
         bytes: Bytes::new(Vec::from_slice(alloc, bytes)?),
     })
+}
+
+/// The halfwords of a text, each in hexadecimal digits, with a blank between.
+pub(crate) fn halves_of(
+    rt: &impl Abort,
+    alloc: Global,
+    text: &str,
+) -> Result<Vec<u16>, AllocError> {
+    let mut halves = Vec::new(alloc);
+    for word in text.split(' ') {
+        halves.push(u16::from_str_radix(word, 16).expect(rt, "a halfword"))?;
+    }
+    Ok(halves)
 }
 
 /// A section of halfwords.
@@ -36,12 +50,10 @@ pub(crate) fn halfwords(
     halves: &[u16],
 ) -> Result<Section, AllocError> {
     let mut bytes = Vec::new(alloc);
-    let mut size = 0u32;
     for half in halves {
         bytes.extend_from_slice(&half.to_le_bytes())?;
-        size = size.wrapping_add(2);
     }
-    section(alloc, text, flags, size, &bytes)
+    section(alloc, text, flags, 4, &bytes)
 }
 
 /// The object of these sections, symbols and relocations.

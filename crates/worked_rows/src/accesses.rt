@@ -1,7 +1,8 @@
+//! Loads, stores, branches and faults.
+
 ghost use Rattle.std.specs.Prelude.{◌≡◌, ◌<◌, ◌+◌, ◌^◌, IfOk, length, map};
 ghost use Rattle.std.specs.List.Sorted.{IsStrictlyIncreasing};
 
-use super::*;
 use mark_word::{Cell, Mark, Word, pieces};
 use std::alloc::{AllocError, Global};
 use std::test::Fail;
@@ -9,6 +10,7 @@ use thumb_instr::{
     Access, AccessOp, Call, Cond, Half, Instr, It, Literal, Multi, Pair, PairIndex, Place, Reg,
     RegSet, Trap, ZeroBranch,
 };
+use thumb_table::{CodeBytes, Core, FaultKind, Memory, PlaceMark, apply};
 
 /// Two NOPs and the address of an entry.
 fn code(alloc: Global) -> Result<CodeBytes, AllocError>
@@ -162,8 +164,9 @@ fn stores(rt: HostRuntime) -> Result<(), Fail> {
         let mut s = registers(word, Word::plain(0x9000), 0x8000);
         let i = access(op, 0, above(0)).ok_or("no access")?;
         assert_eq!(rt; carried(rt.alloc(), &i, &mut s, &mut m)?, Ok(ordinary));
-        assert_eq!(rt; m.cell_at(0x9000), first);
-        assert_eq!(rt; m.cell_at(0x9001).piece().is_none(), second);
+        assert!(rt; m.cells().len() == 12);
+        assert_eq!(rt; m.cells()[0], first);
+        assert_eq!(rt; m.cells()[1].piece().is_none(), second);
     }
     Ok(())
 }

@@ -1,12 +1,14 @@
+//! Parts of images, and what jumps and conditions make of words.
+
 ghost use Rattle.std.specs.Prelude.{◌≡◌, ◌<◌, ◌+◌, ◌^◌, IfOk, length, map};
 ghost use Rattle.std.specs.List.Sorted.{IsStrictlyIncreasing};
 
-use super::*;
 use elf_model::Name;
 use mark_word::{Cell, Mark, Word};
 use std::alloc::{AllocError, Global};
 use std::test::Fail;
 use thumb_instr::{Instr, Jump, Move, MoveOp, Operand, Reg};
+use thumb_table::{CodeBytes, Core, FaultKind, Image, Memory, NamedEntry, Part, PlaceMark, apply};
 
 /// A NOP, MOV of r8 to itself, `bx lr`; a stop at its end.
 fn code(alloc: Global) -> Result<CodeBytes, AllocError>
