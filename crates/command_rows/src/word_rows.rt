@@ -1,102 +1,102 @@
-use crate::words::{Command, command_of};
-use std::alloc::{AllocError, Global};
+//! Which words are a command, and how its numbers and names are read.
+
+use crate::calls::{Call, USAGE, answers};
+use crate::files::{HARDENED, PLAIN};
+use std::alloc::Global;
 use std::process::Abort;
 use std::test::Fail;
 
-/// The words between single blanks.
-fn words_of(alloc: Global, line: &str) -> Result<Vec<String>, AllocError> {
-    let mut words = Vec::new(alloc);
-    for word in line.split(' ') {
-        words.push(String::from_str(alloc, word)?)?;
-    }
-    Ok(words)
+fn says(rt: &impl Abort, alloc: Global, words: &str, status: u8, text: &str) -> Result<(), Fail> {
+    let call = Call {
+        words,
+        files: &[("a.o", &PLAIN), ("b.o", &HARDENED)],
+        shelf_fails: &[],
+        sink_fails: &[],
+    };
+    answers(rt, alloc, &call, "unsaved", (status, text, None))
 }
 
-/// What a line is read as, in short.
-fn told(alloc: Global, line: &str) -> Result<String, AllocError> {
-    let words = words_of(alloc, line)?;
-    match command_of(alloc, &words) {
-        Command::Unknown => String::from_str(alloc, "unknown"),
-        Command::NoMemory => String::from_str(alloc, "no memory"),
-        Command::Early { input } => format!(in alloc; "early {input}"),
-        Command::Harden { input, output } => format!(in alloc; "harden {input} to {output}"),
-        Command::List { input } => format!(in alloc; "list {input}"),
-        Command::Link(c) => {
-            let at = c.at;
-            let base = at.base;
-            let room = at.room;
-            let stack = at.stack;
-            let input = c.input;
-            let output = c.output;
-            format!(in alloc; "link {input} to {output} at {base} in {room} and {stack}")
-        }
-        Command::Run(c) => {
-            let base = c.at.base;
-            let room = c.at.room;
-            let entry = c.entry;
-            let argument = c.argument.unwrap_or(77);
-            let steps = c.steps;
-            let input = c.input;
-            let first = c.plan.holds(0);
-            let third = c.plan.holds(2);
-            format!(in alloc;
-                "run {entry} of {input} at {base} in {room} with {argument} for {steps} skips {first} {third}"
-            )
-        }
+/// What each line says, where a name or a number of it shows.
+#[test]
+fn reads_commands(rt: HostRuntime) -> Result<(), Fail> {
+    for (line, status, text) in [
+        ("list help", 3, "help: read fault\n"),
+        (
+            "harden a.o b.o c.o d.o",
+            1,
+            "a.o: refused 32 NotYet section 0 offset 0\n",
+        ),
+        (
+            "link --room=0x80000 --base=0 i.bin b.o",
+            0,
+            "linked 8 bytes of code, 0 bytes of data\n",
+        ),
+        (
+            "link --base 4294963200 --room=8 =o b.o",
+            1,
+            "b.o: refused 28 DoesNotFit section 0 offset 0\n",
+        ),
+        (
+            "link --base 0x8000 --room 64 i.bin b.o c.o",
+            1,
+            "b.o: refused 32 NotYet section 0 offset 0\n",
+        ),
+        (
+            "run --skip=0,2 --steps=10000000 --entry==f --base 0x1000 --room 64 b.o",
+            1,
+            "b.o: refused 30 NoEntry section 0 offset 0\n",
+        ),
+        (
+            "run --skip=0,2 --steps=10000000 --entry f --base 0x1000 --room 64 b.o",
+            0,
+            "returned after 4 steps, r0 0x00000005, ordinary yes\n",
+        ),
+        (
+            "run --arg 0xffffffff --skip 0 --steps 0x2 --entry f --base 0x1000 --room 64 a.o",
+            0,
+            "returned after 2 steps, r0 0xffffffff, ordinary yes\n",
+        ),
+        (
+            "run --arg 4294967295 --skip 0 --steps 1 --entry f --base 0x1000 --room 64 a.o",
+            5,
+            "unfinished after 1 steps\n",
+        ),
+        (
+            "run --seed 4294967295 --steps 1 --entry f --base 0x1000 --room 64 b.o",
+            1,
+            "b.o: refused 32 NotYet section 0 offset 0\n",
+        ),
+        (
+            "run --skip 0 --steps 1 --entry f --base 0x1000 --room 64 b.o c.o",
+            1,
+            "b.o: refused 32 NotYet section 0 offset 0\n",
+        ),
+    ] {
+        says(&rt, rt.alloc(), line, status, text)?;
     }
-}
-
-fn reads(rt: &impl Abort, alloc: Global, line: &str, what: &str) -> Result<(), Fail> {
-    let text = told(alloc, line)?;
-    assert_eq!(rt; text.as_str(), what, "{line}");
     Ok(())
 }
 
 #[test]
-fn reads_commands(rt: HostRuntime) -> Result<(), Fail> {
-    for (line, what) in [
-        ("harden a.o b.o", "harden a.o to b.o"),
-        ("list a.o", "list a.o"),
-        ("list", "unknown"),
-        ("list a.o b.o", "unknown"),
-        ("list -h", "unknown"),
-        ("list help", "list help"),
-        ("harden a.o b.o c.o d.o", "early a.o"),
-        (
-            "link --base 0x8000 --room 64 i.bin b.o",
-            "link b.o to i.bin at 32768 in 64 and 65536",
-        ),
-        (
-            "link --room=0x80000 --base=0 i.bin b.o",
-            "link b.o to i.bin at 0 in 524288 and 65536",
-        ),
-        (
-            "link --base 4294963200 --room=8 =o b.o",
-            "link b.o to =o at 4294963200 in 8 and 65536",
-        ),
-        ("link --base 0x8000 --room 64 i.bin b.o c.o", "early b.o"),
-        (
-            "run --base 0x8000 --room 64 --entry f --arg 9 --steps 10 b.o",
-            "run f of b.o at 32768 in 64 with 9 for 10 skips false false",
-        ),
-        (
-            "run --skip=0,2 --steps=10000000 --entry==f --base 0x1000 --room 64 b.o",
-            "run =f of b.o at 4096 in 64 with 77 for 10000000 skips true true",
-        ),
-        (
-            "run --arg 0xffffffff --skip 0 --steps 0x1 --entry f --base 0x1000 --room 64 b.o",
-            "run f of b.o at 4096 in 64 with 4294967295 for 1 skips true false",
-        ),
-        (
-            "run --seed 4294967295 --steps 1 --entry f --base 0x1000 --room 64 b.o",
-            "early b.o",
-        ),
-        (
-            "run --skip 0 --steps 1 --entry f --base 0x1000 --room 64 b.o c.o",
-            "early b.o",
-        ),
+fn understands_no_other_words(rt: HostRuntime) -> Result<(), Fail> {
+    for line in [
+        "",
+        " ",
+        "link a",
+        "harden",
+        "harden a.o",
+        "harden a.o b.o c.o",
+        "harden -a.o b.o",
+        "harden a.o --",
+        "harden a.o ",
+        "hardens a.o b.o",
+        "harden a.o b.o a b a b a b a b a b a b a b a b a b a b a b a b a b a b a b a b",
+        "list",
+        "list a.o b.o",
+        "list -h",
+        "list ",
     ] {
-        reads(&rt, rt.alloc(), line, what)?;
+        says(&rt, rt.alloc(), line, 2, USAGE)?;
     }
     Ok(())
 }
@@ -137,7 +137,7 @@ fn reads_no_other_links(rt: HostRuntime) -> Result<(), Fail> {
         "link --base 0 --room 524296 i.bin b.o",
         "link --base 0 --room 64 o a a a a a a a a a a a a a a a a a",
     ] {
-        reads(&rt, rt.alloc(), line, "unknown")?;
+        says(&rt, rt.alloc(), line, 2, USAGE)?;
     }
     Ok(())
 }
@@ -166,7 +166,7 @@ fn reads_no_other_runs(rt: HostRuntime) -> Result<(), Fail> {
         "run --base 0 --room 64 --entry f --steps 1 --skip= b.o",
         "run --base 0 --room 64 --entry f --steps 1 a a a a a a a a a a a a a a a a a",
     ] {
-        reads(&rt, rt.alloc(), line, "unknown")?;
+        says(&rt, rt.alloc(), line, 2, USAGE)?;
     }
     Ok(())
 }
