@@ -21,8 +21,6 @@ mod reloc_faults;
 mod strings;
 mod symbols;
 mod tables;
-#[cfg(test)]
-mod tests;
 mod unfit;
 mod unhandled;
 mod whole;

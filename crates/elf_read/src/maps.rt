@@ -10,9 +10,6 @@ use crate::headers::word;
 use elf_model::{Deny, MapRow, Object, Refusal, RowKind, Section, Spot};
 use std::alloc::Global;
 
-#[cfg(test)]
-mod tests;
-
 const PROGBITS: u32 = 1;
 
 /// What an object is refused for that has no map.

@@ -14,8 +14,6 @@ mod relocs;
 mod room;
 mod sections;
 mod symbols;
-#[cfg(test)]
-mod tests;
 mod write;
 
 use elf_model::{Limit, Object};

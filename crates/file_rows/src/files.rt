@@ -1,9 +1,7 @@
-use super::*;
-use elf_model::{Refusal, Reloc, RelocKind, Spot};
-use std::alloc::AllocError;
+//! Files as other tools make them.
 
-/// A file of the first form, with the code `movs r0, #5; bx lr`.
-pub(crate) const FILE: [u8; 344] = [
+/// `movs r0, #5` and `bx lr`.
+pub(crate) const PLAIN: [u8; 344] = [
     127, 69, 76, 70, 1, 1, 1, 0, 0, 0, 0, 0, 0, 0, 0, 0, 1, 0, 40, 0, 1, 0, 0, 0, 0, 0, 0, 0, 0, 0,
     0, 0, 144, 0, 0, 0, 0, 0, 0, 5, 52, 0, 0, 0, 0, 0, 40, 0, 5, 0, 4, 0, 5, 32, 112, 71, 0, 0, 0,
     0, 0, 0, 0, 0, 0, 0, 0, 0, 0, 0, 0, 0, 1, 0, 0, 0, 0, 0, 0, 0, 0, 0, 0, 0, 0, 0, 1, 0, 4, 0, 0,
@@ -18,8 +16,27 @@ pub(crate) const FILE: [u8; 344] = [
     33, 0, 0, 0, 0, 0, 0, 0, 0, 0, 0, 0, 1, 0, 0, 0, 0, 0, 0, 0,
 ];
 
-/// A file as a compiler writes it: MOVW and MOVT of `x`, a word of `f`, and debug information.
-const COMPILED: [u8; 1020] = [
+/// The same code with each instruction twice, and a map of two rows.
+pub(crate) const HARDENED: [u8; 436] = [
+    127, 69, 76, 70, 1, 1, 1, 0, 0, 0, 0, 0, 0, 0, 0, 0, 1, 0, 40, 0, 1, 0, 0, 0, 0, 0, 0, 0, 0, 0,
+    0, 0, 196, 0, 0, 0, 0, 0, 0, 5, 52, 0, 0, 0, 0, 0, 40, 0, 6, 0, 5, 0, 5, 32, 5, 32, 112, 71,
+    112, 71, 0, 0, 0, 0, 0, 0, 0, 0, 0, 0, 0, 0, 0, 0, 0, 0, 0, 0, 0, 0, 2, 0, 0, 0, 4, 0, 0, 0, 0,
+    0, 0, 0, 0, 0, 0, 0, 0, 0, 0, 0, 0, 0, 0, 0, 0, 0, 0, 0, 1, 0, 0, 0, 0, 0, 0, 0, 0, 0, 0, 0, 0,
+    0, 1, 0, 4, 0, 0, 0, 1, 0, 0, 0, 8, 0, 0, 0, 18, 0, 1, 0, 0, 36, 116, 0, 102, 0, 0, 46, 116,
+    101, 120, 116, 0, 46, 115, 107, 105, 112, 103, 117, 97, 114, 100, 46, 109, 97, 112, 0, 46, 115,
+    121, 109, 116, 97, 98, 0, 46, 115, 116, 114, 116, 97, 98, 0, 46, 115, 104, 115, 116, 114, 116,
+    97, 98, 0, 0, 0, 0, 0, 0, 0, 0, 0, 0, 0, 0, 0, 0, 0, 0, 0, 0, 0, 0, 0, 0, 0, 0, 0, 0, 0, 0, 0,
+    0, 0, 0, 0, 0, 0, 0, 0, 0, 0, 0, 0, 0, 0, 1, 0, 0, 0, 1, 0, 0, 0, 6, 0, 0, 0, 0, 0, 0, 0, 52,
+    0, 0, 0, 8, 0, 0, 0, 0, 0, 0, 0, 0, 0, 0, 0, 4, 0, 0, 0, 0, 0, 0, 0, 7, 0, 0, 0, 1, 0, 0, 0, 0,
+    0, 0, 0, 0, 0, 0, 0, 60, 0, 0, 0, 32, 0, 0, 0, 0, 0, 0, 0, 0, 0, 0, 0, 4, 0, 0, 0, 16, 0, 0, 0,
+    22, 0, 0, 0, 2, 0, 0, 0, 0, 0, 0, 0, 0, 0, 0, 0, 92, 0, 0, 0, 48, 0, 0, 0, 4, 0, 0, 0, 2, 0, 0,
+    0, 4, 0, 0, 0, 16, 0, 0, 0, 30, 0, 0, 0, 3, 0, 0, 0, 0, 0, 0, 0, 0, 0, 0, 0, 140, 0, 0, 0, 6,
+    0, 0, 0, 0, 0, 0, 0, 0, 0, 0, 0, 1, 0, 0, 0, 0, 0, 0, 0, 38, 0, 0, 0, 3, 0, 0, 0, 0, 0, 0, 0,
+    0, 0, 0, 0, 146, 0, 0, 0, 48, 0, 0, 0, 0, 0, 0, 0, 0, 0, 0, 0, 1, 0, 0, 0, 0, 0, 0, 0,
+];
+
+/// As a compiler writes it: MOVW and MOVT of `x`, a word of `f`, and debug information.
+pub(crate) const COMPILED: [u8; 1020] = [
     127, 69, 76, 70, 1, 1, 1, 0, 0, 0, 0, 0, 0, 0, 0, 0, 1, 0, 40, 0, 1, 0, 0, 0, 0, 0, 0, 0, 0, 0,
     0, 0, 124, 1, 0, 0, 0, 0, 0, 5, 52, 0, 0, 0, 0, 0, 40, 0, 16, 0, 15, 0, 64, 242, 0, 3, 192,
     242, 0, 3, 24, 104, 112, 71, 0, 0, 0, 0, 47, 4, 0, 0, 4, 0, 0, 0, 48, 4, 0, 0, 7, 0, 0, 0, 0,
@@ -58,95 +75,27 @@ const COMPILED: [u8; 1020] = [
     0, 0, 0, 155, 0, 0, 0, 0, 0, 0, 0, 0, 0, 0, 0, 1, 0, 0, 0, 0, 0, 0, 0,
 ];
 
-fn changed(alloc: Global, file: &[u8], at: usize, new: u8) -> Result<Vec<u8>, AllocError> {
-    let mut file = Vec::from_slice(alloc, file)?;
-    if at < file.len() {
-        file[at] = new;
-    }
-    Ok(file)
-}
-
-fn at(refusal: Refusal, section: u32, offset: u32) -> Option<Deny> {
-    Some(Deny::Refused(Spot {
-        refusal,
-        file: 0,
-        section,
-        offset,
-    }))
-}
-
-#[test]
-fn reads_the_file(rt: HostRuntime) {
-    let read = read_object(rt.alloc(), &FILE, &Limit::INPUT).expect(&rt, "an object");
-    assert_eq!(rt; read.dropped, 0);
-    assert_eq!(rt; read.object.sections().len(), 1);
-    assert_eq!(rt; read.object.symbols().len(), 2);
-    assert_eq!(rt; read.object.flags(), 0x0500_0000);
-}
-
-#[test]
-fn reads_the_file_of_a_compiler(rt: HostRuntime) {
-    let read = read_object(rt.alloc(), &COMPILED, &Limit::INPUT).expect(&rt, "an object");
-    assert_eq!(rt; read.dropped, 2);
-    let names = [
-        b".text".as_slice(),
-        b".data".as_slice(),
-        b".rodata".as_slice(),
-        b".bss".as_slice(),
-        b".comment".as_slice(),
-        b".ARM.attributes".as_slice(),
-    ];
-    assert_eq!(rt; read.object.sections().len(), 6);
-    for (section, name) in read.object.sections().iter().zip(names) {
-        assert_eq!(rt; section.name.bytes(), name);
-    }
-    let rows = [
-        (0, 0, RelocKind::MovwAbs, 2),
-        (0, 4, RelocKind::MovtAbs, 2),
-        (2, 0, RelocKind::Abs32, 1),
-    ];
-    assert_eq!(rt; read.object.relocs().len(), 3);
-    for (reloc, (section, offset, kind, symbol)) in read.object.relocs().iter().zip(rows) {
-        let want = Reloc {
-            section,
-            offset,
-            kind,
-            symbol,
-        };
-        assert_eq!(rt; *reloc, want);
-    }
-}
-
-#[test]
-fn refuses_broken_files(rt: HostRuntime) {
-    let alloc = rt.alloc();
-    let rows: [(&[u8], usize, u8, Option<Deny>); 9] = [
-        (&[], 0, 0, at(Refusal::NotElf, 0, 0)),
-        (&FILE[..143], 0, 0x7F, at(Refusal::BadTable, 0, 32)),
-        (&FILE, 4, 2, at(Refusal::NotArmRel, 0, 4)),
-        (&FILE, 248, 9, at(Refusal::BadTable, 2, 248)),
-        (&FILE, 72, 6, at(Refusal::BadName, 2, 72)),
-        (&FILE, 92, 7, at(Refusal::BadSymbol, 2, 92)),
-        (&COMPILED, 69, 9, at(Refusal::BadReloc, 2, 68)),
-        (&COMPILED, 72, 0, at(Refusal::BadReloc, 2, 72)),
-        (&FILE, 192, 7, at(Refusal::SectionKind, 1, 192)),
-    ];
-    for (file, place, new, want) in rows {
-        let file = changed(alloc, file, place, new).expect(&rt, "memory");
-        assert!(rt; file.len() < 2000);
-        assert_eq!(rt;
-            read_object(alloc, file.as_slice(), &Limit::INPUT).err(),
-            want
-        );
-    }
-}
-
-#[test]
-fn refuses_what_passes_the_limit(rt: HostRuntime) {
-    let limit = Limit {
-        sections: 4,
-        ..Limit::INPUT
-    };
-    let denied = read_object(rt.alloc(), &FILE, &limit).err();
-    assert_eq!(rt; denied, at(Refusal::TooMany, 0, 48));
-}
+/// MOVW and MOVT of `x`, a word of `f`, and a section without contents.
+pub(crate) const PLACED: [u8; 604] = [
+    127, 69, 76, 70, 1, 1, 1, 0, 0, 0, 0, 0, 0, 0, 0, 0, 1, 0, 40, 0, 1, 0, 0, 0, 0, 0, 0, 0, 0, 0,
+    0, 0, 244, 0, 0, 0, 0, 0, 0, 5, 52, 0, 0, 0, 0, 0, 40, 0, 9, 0, 8, 0, 64, 242, 0, 3, 192, 242,
+    0, 3, 0, 0, 0, 0, 0, 0, 0, 0, 47, 2, 0, 0, 4, 0, 0, 0, 48, 2, 0, 0, 0, 0, 0, 0, 2, 3, 0, 0, 0,
+    0, 0, 0, 0, 0, 0, 0, 0, 0, 0, 0, 0, 0, 0, 0, 1, 0, 0, 0, 0, 0, 0, 0, 0, 0, 0, 0, 0, 0, 1, 0, 4,
+    0, 0, 0, 0, 0, 0, 0, 4, 0, 0, 0, 1, 0, 3, 0, 6, 0, 0, 0, 1, 0, 0, 0, 8, 0, 0, 0, 18, 0, 1, 0,
+    8, 0, 0, 0, 0, 0, 0, 0, 0, 0, 0, 0, 16, 0, 0, 0, 0, 36, 116, 0, 120, 0, 102, 0, 103, 0, 0, 46,
+    116, 101, 120, 116, 0, 46, 98, 115, 115, 0, 46, 100, 97, 116, 97, 0, 46, 114, 101, 108, 46,
+    116, 101, 120, 116, 0, 46, 114, 101, 108, 46, 100, 97, 116, 97, 0, 46, 115, 121, 109, 116, 97,
+    98, 0, 46, 115, 116, 114, 116, 97, 98, 0, 46, 115, 104, 115, 116, 114, 116, 97, 98, 0, 0, 0, 0,
+    0, 0, 0, 0, 0, 0, 0, 0, 0, 0, 0, 0, 0, 0, 0, 0, 0, 0, 0, 0, 0, 0, 0, 0, 0, 0, 0, 0, 0, 0, 0, 0,
+    0, 0, 0, 0, 0, 0, 0, 1, 0, 0, 0, 1, 0, 0, 0, 6, 0, 0, 0, 0, 0, 0, 0, 52, 0, 0, 0, 8, 0, 0, 0,
+    0, 0, 0, 0, 0, 0, 0, 0, 4, 0, 0, 0, 0, 0, 0, 0, 7, 0, 0, 0, 8, 0, 0, 0, 3, 0, 0, 0, 0, 0, 0, 0,
+    64, 0, 0, 0, 12, 0, 0, 0, 0, 0, 0, 0, 0, 0, 0, 0, 8, 0, 0, 0, 0, 0, 0, 0, 12, 0, 0, 0, 1, 0, 0,
+    0, 3, 0, 0, 0, 0, 0, 0, 0, 60, 0, 0, 0, 4, 0, 0, 0, 0, 0, 0, 0, 0, 0, 0, 0, 4, 0, 0, 0, 0, 0,
+    0, 0, 18, 0, 0, 0, 9, 0, 0, 0, 0, 0, 0, 0, 0, 0, 0, 0, 64, 0, 0, 0, 16, 0, 0, 0, 6, 0, 0, 0, 1,
+    0, 0, 0, 4, 0, 0, 0, 8, 0, 0, 0, 28, 0, 0, 0, 9, 0, 0, 0, 0, 0, 0, 0, 0, 0, 0, 0, 80, 0, 0, 0,
+    8, 0, 0, 0, 6, 0, 0, 0, 3, 0, 0, 0, 4, 0, 0, 0, 8, 0, 0, 0, 38, 0, 0, 0, 2, 0, 0, 0, 0, 0, 0,
+    0, 0, 0, 0, 0, 88, 0, 0, 0, 80, 0, 0, 0, 7, 0, 0, 0, 3, 0, 0, 0, 4, 0, 0, 0, 16, 0, 0, 0, 46,
+    0, 0, 0, 3, 0, 0, 0, 0, 0, 0, 0, 0, 0, 0, 0, 168, 0, 0, 0, 10, 0, 0, 0, 0, 0, 0, 0, 0, 0, 0, 0,
+    1, 0, 0, 0, 0, 0, 0, 0, 54, 0, 0, 0, 3, 0, 0, 0, 0, 0, 0, 0, 0, 0, 0, 0, 178, 0, 0, 0, 64, 0,
+    0, 0, 0, 0, 0, 0, 0, 0, 0, 0, 1, 0, 0, 0, 0, 0, 0, 0,
+];

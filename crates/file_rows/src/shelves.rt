@@ -1,12 +1,13 @@
-use crate::host::{read_front, write_whole};
-use crate::{
+//! Files and output, in memory and of the system.
+
+use elf_model::Name;
+use guard_io::{
     HostShelf, HostSink, LoadErr, MemShelf, MemSink, NamedFile, PutErr, SaveErr, Shelf, Sink,
     have_different_names,
 };
-use elf_model::Name;
 use std::alloc::{AllocError, Global};
 use std::fs;
-use std::io::{self, Read, Write};
+use std::io::{self, Write};
 use std::process::Abort;
 use std::test::Fail;
 
@@ -109,17 +110,16 @@ fn a_real_file_is_saved_and_loaded(rt: HostRuntime) -> Result<(), Fail> {
     Ok(())
 }
 
+/// A missing file, a folder, which is opened but gives no bytes, and a place in no folder.
 #[test]
-fn a_real_file_that_is_missing_is_a_fault(rt: HostRuntime) -> Result<(), Fail> {
+fn an_error_of_the_system_is_a_fault(rt: HostRuntime) -> Result<(), Fail> {
     let mut shelf = HostShelf::new(rt);
-    assert_eq!(rt;
-        shelf.load(rt.alloc(), "guard_io.missing", 9).err(),
-        Some(LoadErr::Failed)
-    );
-    assert_eq!(rt;
-        shelf.save("guard_io.missing/a", &[1]),
-        Err(SaveErr::Failed)
-    );
+    for name in ["guard_io.missing", "."] {
+        let loaded = shelf.load(rt.alloc(), name, 9);
+        assert_eq!(rt; loaded.err(), Some(LoadErr::Failed), "{name}");
+    }
+    let saved = shelf.save("guard_io.missing/a", &[1]);
+    assert_eq!(rt; saved, Err(SaveErr::Failed));
     Ok(())
 }
 
@@ -131,32 +131,19 @@ fn the_standard_output_takes_bytes(rt: HostRuntime) -> Result<(), Fail> {
     Ok(())
 }
 
+/// A writer that takes a part of a text and then nothing.
 #[test]
-fn a_full_writer_is_a_fault(rt: HostRuntime) -> Result<(), Fail> {
-    let mut sink = HostSink::new(Narrow { room: 5 });
-    assert_eq!(rt; sink.put(b"abc"), Ok(()));
-    assert_eq!(rt; sink.put(b"abc"), Err(PutErr::Failed));
-    assert_eq!(rt; sink.put(&[]), Ok(()));
-    Ok(())
-}
-
-/// Gives one byte for each read, and then an error.
-#[derive(Drop)]
-struct Trickle {
-    left: u8,
-}
-
-impl Read for Trickle {
-    fn read(&mut self, buf: &mut [u8]) -> io::Result<usize> {
-        if self.left == 0 {
-            return Err(io::Error::other("torn"));
-        }
-        if buf.is_empty() {
-            return Ok(0);
-        }
-        buf[0] = self.left;
-        self.left -= 1;
-        Ok(1)
+fn a_full_writer_is_a_fault(rt: HostRuntime) {
+    for (room, first, second) in [
+        (6, Ok(()), Ok(())),
+        (5, Ok(()), Err(PutErr::Failed)),
+        (2, Err(PutErr::Failed), Err(PutErr::Failed)),
+        (0, Err(PutErr::Failed), Err(PutErr::Failed)),
+    ] {
+        let mut sink = HostSink::new(Narrow { room });
+        assert_eq!(rt; sink.put(b"abc"), first, "{room}");
+        assert_eq!(rt; sink.put(b"abc"), second, "{room}");
+        assert_eq!(rt; sink.put(&[]), Ok(()), "{room}");
     }
 }
 
@@ -176,30 +163,4 @@ impl Write for Narrow {
     fn flush(&mut self) -> io::Result<()> {
         Ok(())
     }
-}
-
-#[test]
-fn an_error_in_mid_stream_is_told(rt: HostRuntime) -> Result<(), Fail> {
-    let mut whole = Trickle { left: 3 };
-    assert_eq!(rt;
-        read_front(&mut whole, rt.alloc(), 3)?.as_slice(),
-        [3, 2, 1].as_slice()
-    );
-    let mut torn = Trickle { left: 3 };
-    assert_eq!(rt;
-        read_front(&mut torn, rt.alloc(), 4).err(),
-        Some(LoadErr::Failed)
-    );
-    for (room, text, fits) in [
-        (5, b"abcde", true),
-        (4, b"abcde", false),
-        (0, b"abcde", false),
-    ] {
-        assert_eq!(rt;
-            write_whole(&mut Narrow { room }, text).is_ok(),
-            fits,
-            "room {room}"
-        );
-    }
-    Ok(())
 }
