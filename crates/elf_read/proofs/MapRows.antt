@@ -7,7 +7,8 @@ use Rattle.std.proofs.lemmas.Bool.Decides.{nat_tests}
 use Rattle.std.proofs.lemmas.List.Elements.{All-nil}
 use Rattle.elf_read.proofs.EachRow.{all_cons, all_first, all_rest}
 use Rattle.elf_model.specs.declared.objects.MapRow.{MapRow}
-use Rattle.elf_read.specs.MapRows.{IsBefore, Rise, is_before, may_come, rising}
+use Rattle.elf_model.specs.Maps.{IsBefore, Rise}
+use Rattle.elf_read.specs.MapRows.{is_before, may_come, rising}
 
 -- whether these rows stand above the last one before, if there was one
 abbrev pub are_above : Option MapRow → List MapRow → Bool

@@ -10,7 +10,6 @@ mod building;
 mod format;
 mod headers;
 mod keeping;
-mod kinds;
 mod laws;
 mod limits;
 mod malformed;

@@ -1,19 +1,16 @@
 //! The rows of the address map of an object that was hardened.
 
 ghost use Rattle.std.specs.Prelude.{◌≡◌, ◌≤◌, ◌+◌, ◌%◌, ℕ, length, IfOk, IfErr};
-ghost use Rattle.elf_model.specs.Maps.{row_kind};
-ghost use Rattle.elf_model.specs.Fields.{same_name};
-ghost use Rattle.elf_model.specs.Maps.{map_name};
-ghost use Rattle.elf_read.specs.MapRows.{AreRows, HasNoMap, HasNoRows, IsDenied, IsMapOf, IsNext, IsOnly, IsRowAt, is_before, is_plain, kind_of, map_spot, may_come, rising};
+ghost use Rattle.elf_model.specs.Maps.{row_kind, AreRows, HasMap, is_map_named};
+ghost use Rattle.elf_read.specs.MapRows.{HasNoMap, HasNoRows, IsDenied, IsNext, IsOnly, IsRowAt, is_before, is_plain, kind_of, map_spot, may_come, rising};
 
 use crate::headers::word;
+use elf_model::numbers::PROGBITS;
 use elf_model::{Deny, MapRow, Object, Refusal, RowKind, Section, Spot};
 use std::alloc::Global;
 
 #[cfg(test)]
 mod tests;
-
-const PROGBITS: u32 = 1;
 
 /// What an object is refused for that has no map.
 fn refused() -> Deny
@@ -28,7 +25,7 @@ fn refused() -> Deny
 }
 
 fn is_named(s: &Section) -> bool
-    ensures { result ≡ same_name s.now.name map_name }
+    ensures { result ≡ is_map_named s.now }
 {
     s.name.bytes() == b".skipguard.map".as_slice()
 }
@@ -152,7 +149,7 @@ fn rise(rows: &[MapRow]) -> bool
 
 /// The rows of an object's address map, or a refusal where it has none.
 pub fn read_map(alloc: Global, o: &Object) -> Result<Vec<MapRow>, Deny>
-    ensures rows { IfOk result (λ rows. IsMapOf o.now rows.items) }
+    ensures rows { IfOk result (λ rows. HasMap o.now rows.items) }
     ensures refused { IfErr result (IsDenied (HasNoMap o.now)) }
 {
     let sections = o.sections();

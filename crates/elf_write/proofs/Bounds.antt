@@ -1,5 +1,5 @@
 -- The file of an object within the limits has fewer than 2^32 bytes.
-use Rattle.std.proofs.Common.{◌≡◌, ◌≤◌, ◌<◌, ℕ, ◌+◌, ◌-◌, ◌*◌, ◌/◌, ◌^◌, Bool, true, false, cond, not, List, [], ◌∷◌, ◌++◌, length, get_or, refl, sym, ap, ◌∙◌, arith, map, filter}
+use Rattle.std.proofs.Common.{◌≡◌, ◌≤◌, ◌<◌, ℕ, ◌+◌, ◌-◌, ◌*◌, ◌^◌, Bool, true, false, cond, not, List, [], ◌∷◌, ◌++◌, length, get_or, refl, ap, ◌∙◌, arith, map, filter}
 use Rattle.std.specs.Prelude.{All, IsTrue, ◌==◌, ◌&&◌, nat_le, if◌then◌else◌, codes}
 use Rattle.std.specs.List.{sum_by, flat_map}
 use Rattle.std.proofs.Math.Nat.{div-mul-le_self}
@@ -8,13 +8,12 @@ use Rattle.std.proofs.lemmas.List.Sums.{sum_by-cons, sum_by-append}
 use Rattle.std.proofs.lemmas.List.Elements.{All-nil, All-cons, All-append, All-map, All-head, All-tail}
 use Rattle.elf_model.specs.declared.objects.Section.{Section}
 use Rattle.elf_model.specs.declared.objects.Symbol.{Symbol}
-use Rattle.elf_model.specs.declared.objects.Reloc.{Reloc}
 use Rattle.elf_model.specs.Constants.{nobits}
 use Rattle.elf_model.specs.Fields.{same_name}
 use Rattle.elf_model.specs.Objects.{ObjectParts, is_object, is_within, code_size}
 use Rattle.elf_model.specs.declared.refusals.Limit.{Limit}
 use Rattle.std.proofs.lemmas.Bool.{and_parts, leb-true}
-use Rattle.elf_model.specs.Canonical.{FileSection, canonical, file_sections, section_names, own_section, reloc_section, reloc_name, symtab_section, strings_section, symbol_names, symbol_row, string_table, different, relocated, relocs_in, round_up, start_of, end_of, laid_end, table_place, shstrtab_header}
+use Rattle.elf_model.specs.Canonical.{FileSection, canonical, file_sections, section_names, own_section, reloc_section, reloc_name, symtab_section, strings_section, symbol_names, string_table, different, relocated, relocs_in, round_up, start_of, end_of, laid_end, table_place, shstrtab_header}
 use Rattle.elf_model.specs.Fits.{Fits, SectionFits, SymbolFits, RelocFits}
 use Rattle.elf_model.proofs.FileRead.{length-file_of}
 use Rattle.elf_model.proofs.Laid.{round_up_above}
