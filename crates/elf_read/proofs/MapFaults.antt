@@ -7,7 +7,8 @@ use Rattle.elf_model.specs.declared.refusals.Deny.{Deny}
 use Rattle.elf_model.specs.declared.refusals.Deny.TheVariants.{NoMemory, Refused}
 use Rattle.elf_model.specs.Objects.{ObjectParts}
 use Rattle.elf_model.specs.Maps.{AreRows, HasMap, is_map_named}
-use Rattle.elf_read.specs.MapRows.{is_plain, rising, HasNoMap, HasNoRows, IsDenied, IsOnlyAt}
+use Rattle.elf_read.specs.MapRefusals.{HasNoMap, IsDenied}
+use Rattle.elf_read.specs.MapRows.{is_plain, rising, HasNoRows, IsOnlyAt}
 use Rattle.elf_read.proofs.MapRows.{rise_is, rising_so}
 use Rattle.elf_read.proofs.RowBytes.{same_rows, whole_rows}
 

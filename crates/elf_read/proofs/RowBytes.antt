@@ -3,7 +3,7 @@ use Rattle.std.proofs.Common.{◌≡◌, ◌≤◌, ◌<◌, ℕ, zero, suc, ◌
 use Rattle.std.specs.Prelude.{All, slice_index}
 use Rattle.std.specs.List.{flat_map}
 use Rattle.std.proofs.lemmas.List.{drop-drop, get_or-drop, drop_all, append-nil, flat_map_more}
-use Rattle.std.proofs.lemmas.List.Elements.{All-nil}
+use Rattle.std.proofs.lemmas.List.Elements.{All-nil, All-cons, All-head, All-tail}
 use Rattle.byteorder.specs.Endian.{little_number}
 use Rattle.byteorder.specs.Numbers.{little_number-reads_back}
 use Rattle.elf_model.specs.declared.objects.MapRow.{MapRow}
@@ -11,7 +11,6 @@ use Rattle.elf_model.specs.declared.objects.RowKind.{RowKind}
 use Rattle.elf_model.specs.declared.objects.RowKind.TheVariants.{Start, Return}
 use Rattle.elf_model.specs.Fields.{word_at, word}
 use Rattle.elf_model.specs.Maps.{row_bytes, row_kind, RowFits, AreRows}
-use Rattle.elf_read.proofs.EachRow.{all_cons, all_first, all_rest}
 use Rattle.elf_read.specs.MapRows.{HasNoRows, IsRow, IsRowAt, kind_of}
 
 -- a word that was read is its four bytes
@@ -95,8 +94,8 @@ pub none_read : (b : List ℕ) (rows : List MapRow) → rows ≡ [] → AreRead 
 none_read b rows e = record { bytes = ap (λ (xs : List MapRow). flat_map row_bytes xs ++ b) e; fit = subst (All RowFits) (sym e) (All-nil RowFits) }
 
 all_more : (rows : List MapRow) (r : MapRow) → All RowFits rows → RowFits r → All RowFits (rows ++ r ∷ [])
-all_more [] r h f = all_cons RowFits r [] f h
-all_more (q ∷ rows) r h f = all_cons RowFits q (rows ++ r ∷ []) (all_first RowFits q rows h) (all_more rows r (all_rest RowFits q rows h) f)
+all_more [] r h f = All-cons RowFits r [] f h
+all_more (q ∷ rows) r h f = All-cons RowFits q (rows ++ r ∷ []) (All-head RowFits q rows h) (all_more rows r (All-tail RowFits q rows h) f)
 
 pub one_more : (b : List ℕ) (i : ℕ) (rows new : List MapRow) (r : MapRow) → new ≡ rows ++ r ∷ [] → IsRow b (16 * i) r → AreRead b i rows → AreRead b (i + 1) new
 one_more b i rows new r e row h =
@@ -135,11 +134,11 @@ same_rows [] (y ∷ ys) e f g = absurd (let n = ap length e in omega (arith, n))
 same_rows (x ∷ xs) [] e f g = absurd (let n = ap length e in omega (arith, n))
 same_rows (x ∷ xs) (y ∷ ys) e f g =
     let b = flat_map row_bytes (x ∷ xs) in
-    let s : x.section ≡ y.section = sym (section_read b 0 x (flat_map row_bytes xs) refl (all_first RowFits x xs f).section) ∙ section_read b 0 y (flat_map row_bytes ys) e (all_first RowFits y ys g).section in
-    let o : x.old ≡ y.old = sym (old_read b 0 x (flat_map row_bytes xs) refl (all_first RowFits x xs f).old) ∙ old_read b 0 y (flat_map row_bytes ys) e (all_first RowFits y ys g).old in
-    let n : x.new ≡ y.new = sym (new_read b 0 x (flat_map row_bytes xs) refl (all_first RowFits x xs f).new) ∙ new_read b 0 y (flat_map row_bytes ys) e (all_first RowFits y ys g).new in
+    let s : x.section ≡ y.section = sym (section_read b 0 x (flat_map row_bytes xs) refl (All-head RowFits x xs f).section) ∙ section_read b 0 y (flat_map row_bytes ys) e (All-head RowFits y ys g).section in
+    let o : x.old ≡ y.old = sym (old_read b 0 x (flat_map row_bytes xs) refl (All-head RowFits x xs f).old) ∙ old_read b 0 y (flat_map row_bytes ys) e (All-head RowFits y ys g).old in
+    let n : x.new ≡ y.new = sym (new_read b 0 x (flat_map row_bytes xs) refl (All-head RowFits x xs f).new) ∙ new_read b 0 y (flat_map row_bytes ys) e (All-head RowFits y ys g).new in
     let k : x.kind ≡ y.kind = same_kind x.kind y.kind (sym (kind_read b 0 x (flat_map row_bytes xs) refl) ∙ kind_read b 0 y (flat_map row_bytes ys) e) in
-    let rest = same_rows xs ys (ap (drop 16) e) (all_rest RowFits x xs f) (all_rest RowFits y ys g) in
+    let rest = same_rows xs ys (ap (drop 16) e) (All-tail RowFits x xs f) (All-tail RowFits y ys g) in
     λ i. (record { section = s i; old = o i; new = n i; kind = k i }) ∷ rest i
 
 pub whole_rows : (rows : List MapRow) → length (flat_map row_bytes rows) ≡ 16 * length rows

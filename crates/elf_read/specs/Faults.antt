@@ -1,10 +1,12 @@
 -- Each fault of a file, with its place: the number of a section header, and the offset of a field in the file.
-use Rattle.std.specs.Prelude.{◌≡◌, ◌≢◌, ◌<◌, ◌≤◌, ◌⊎◌, ℕ, ◌+◌, ◌-◌, ◌*◌, ◌/◌, ◌%◌, ◌^◌, ◌==◌, ◌&&◌, ◌||◌, not, Bool, true, false, List, [], ◌∷◌, length, take, filter, sum_by, if◌then◌else◌}
+use Rattle.std.specs.Prelude.{◌≡◌, ◌≢◌, ◌<◌, ◌≤◌, ◌⊎◌, ℕ, ◌+◌, ◌-◌, ◌*◌, ◌/◌, ◌%◌, ◌^◌, ◌==◌, ◌&&◌, ◌||◌, not, Bool, true, false, List, [], ◌∷◌, length, take, filter, sum_by, if◌then◌else◌, ⊤}
 use Rattle.elf_model.specs.declared.refusals.Refusal.{Refusal}
 use Rattle.elf_model.specs.declared.refusals.Refusal.TheVariants.{NotElf, NotArmRel, BadTable, BadName, BadSymbol, BadReloc, TooMany, SectionKind}
 use Rattle.elf_model.specs.declared.refusals.Limit.{Limit}
 use Rattle.elf_model.specs.declared.refusals.TheConstants.Limit.{INPUT}
 use Rattle.elf_model.specs.declared.refusals.Spot.{Spot}
+use Rattle.elf_model.specs.declared.refusals.Deny.{Deny}
+use Rattle.elf_model.specs.declared.refusals.Deny.TheVariants.{NoMemory, Refused}
 use Rattle.elf_model.specs.Constants.{symtab, strtab, rel, nobits, undefined_index, absolute_index, local, func}
 use Rattle.elf_model.specs.Refusals.{number_of}
 use Rattle.elf_model.specs.Fields.{byte_at, half_at, word_at, same_name}
@@ -136,6 +138,7 @@ IsFaultless b l = (r : Refusal) (section offset : ℕ) → Fault b l r section o
 abbrev pub dropped_count : List ℕ → ℕ
 dropped_count b = length (filter (λ h. not (is_table (header b h).kind) && is_dropped b h) (headers b))
 
--- no fault with a number below n
-abbrev pub IsFaultlessBelow : List ℕ → Limit → ℕ → Type 0
-IsFaultlessBelow b l n = (r : Refusal) (section offset : ℕ) → number_of r < n → Fault b l r section offset → ⊥
+-- What comes in an object's place; memory may run out at any time.
+abbrev pub IsDeniedFor : List ℕ → Limit → Deny → Type 0
+IsDeniedFor b l NoMemory = ⊤
+IsDeniedFor b l (Refused spot) = IsFirstFault b l spot

@@ -1,31 +1,15 @@
--- When an object has no address map, and the tests that find one.
-use Rattle.std.specs.Prelude.{◌≡◌, ◌<◌, ◌+◌, ◌%◌, ◌++◌, ◌==◌, nat_lt, ◌&&◌, ◌||◌, ℕ, Bool, true, List, [], ◌∷◌, length, drop, get_or, filter, Option, Some, None, ⊤, if◌then◌else◌}
+-- The tests that find an object's address map and its rows.
+use Rattle.std.specs.Prelude.{◌≡◌, ◌<◌, ◌+◌, ◌%◌, ◌++◌, ◌==◌, nat_lt, ◌&&◌, ◌||◌, ℕ, Bool, true, List, [], ◌∷◌, length, drop, get_or, filter, Option, Some, None, if◌then◌else◌}
 use Rattle.std.specs.List.{list_all}
 use Rattle.elf_model.specs.declared.objects.Section.{Section}
 use Rattle.elf_model.specs.declared.objects.MapRow.{MapRow}
 use Rattle.elf_model.specs.declared.objects.RowKind.{RowKind}
 use Rattle.elf_model.specs.declared.objects.RowKind.TheVariants.{Start, Return}
-use Rattle.elf_model.specs.declared.refusals.Refusal.TheVariants.{SectionKind}
-use Rattle.elf_model.specs.declared.refusals.Deny.{Deny}
-use Rattle.elf_model.specs.declared.refusals.Deny.TheVariants.{NoMemory, Refused}
 use Rattle.elf_model.specs.Constants.{progbits}
-use Rattle.elf_model.specs.Maps.{row_bytes, row_kind, RowFits, AreRows, is_map_named, HasMap}
-use Rattle.elf_model.specs.Objects.{ObjectParts}
-
-abbrev pub HasNoMap : ObjectParts → Type 0
-HasNoMap o = (rows : List MapRow) → HasMap o rows → ⊥
+use Rattle.elf_model.specs.Maps.{row_bytes, row_kind, RowFits, AreRows, is_map_named}
 
 abbrev pub HasNoRows : List ℕ → Type 0
 HasNoRows b = (rows : List MapRow) → AreRows b rows → ⊥
-
--- the refusal of an object without a map
-abbrev pub map_spot : Deny
-map_spot = Refused (record { refusal = SectionKind; file = 0; section = 0; offset = 0 })
-
--- what comes in place of rows, only for this reason; memory may run out at any time
-abbrev pub IsDenied : Type 0 → Deny → Type 0
-IsDenied P NoMemory = ⊤
-IsDenied P (Refused spot) = (Refused spot ≡ map_spot) × P
 
 -- the first section from a number on that has the name
 pub record IsNextAt (xs : List Section) (first k : ℕ) : Type 0 where

@@ -93,7 +93,7 @@ pub(crate) fn sections(
 }
 
 /// The number at a place of a table of numbers.
-fn number(numbers: &[u32], k: usize) -> u32
+fn number_at(numbers: &[u32], k: usize) -> u32
     ensures { result ≡ slice_index numbers.now k }
 {
     if k < numbers.len() { numbers[k] } else { 0 }
@@ -112,7 +112,7 @@ fn home_of(bytes: &[u8], e: usize, numbers: &[u32]) -> Home
     } else if index == ABSOLUTE_INDEX {
         Home::Absolute
     } else {
-        Home::Section(number(numbers, index as usize))
+        Home::Section(number_at(numbers, index as usize))
     }
 }
 
@@ -233,10 +233,10 @@ fn reloc_at(bytes: &[u8], h: usize, r: usize, numbers: &[u32], symbols: &[u32]) 
 {
     let info = word(bytes, r + 4);
     Reloc {
-        section: number(numbers, header_at(bytes, h).info as usize),
+        section: number_at(numbers, header_at(bytes, h).info as usize),
         offset: word(bytes, r),
         kind: RelocKind::of_code((info % 256) as u8),
-        symbol: number(symbols, info as usize / 256),
+        symbol: number_at(symbols, info as usize / 256),
     }
 }
 

@@ -3,8 +3,7 @@
 
 ghost use Rattle.std.specs.Prelude.{◌≡◌, ◌<◌, ◌^◌, length, IfOk, IfErr, OnOk};
 ghost use Rattle.elf_model.specs.Files.{StandsFor};
-ghost use Rattle.elf_read.specs.Faults.{IsFaultless, dropped_count};
-ghost use Rattle.elf_read.specs.FirstFaults.{IsDeniedFor};
+ghost use Rattle.elf_read.specs.Faults.{IsFaultless, dropped_count, IsDeniedFor};
 
 mod building;
 mod format;

@@ -2,7 +2,8 @@
 
 ghost use Rattle.std.specs.Prelude.{◌≡◌, ◌≤◌, ◌+◌, ◌%◌, ℕ, length, IfOk, IfErr};
 ghost use Rattle.elf_model.specs.Maps.{row_kind, AreRows, HasMap, is_map_named};
-ghost use Rattle.elf_read.specs.MapRows.{HasNoMap, HasNoRows, IsDenied, IsNext, IsOnly, IsRowAt, is_before, is_plain, kind_of, map_spot, may_come, rising};
+ghost use Rattle.elf_read.specs.MapRefusals.{HasNoMap, IsDenied, map_spot};
+ghost use Rattle.elf_read.specs.MapRows.{HasNoRows, IsNext, IsOnly, IsRowAt, is_before, is_plain, kind_of, may_come, rising};
 
 use crate::headers::word;
 use elf_model::numbers::PROGBITS;

@@ -14,4 +14,4 @@ returns-else-index c =
     let other : i ≢ undefined_index = λ e. c.if-index-eq-UNDEFINED_INDEX.false (same ∙ e) in
     let far : i ≢ absolute_index = λ e. c.if-index.false (same ∙ e) in
     let there = kept_home b c.args.e c.requires.stays other far in
-    home_section b i c.number.result other far (c.number.ensures ∙ ap (λ (k : ℕ). slice_index c.args.numbers.now k) same ∙ section_number_is b c.args.numbers.now i c.requires.numbers there.0)
+    home_section b i c.number_at.result other far (c.number_at.ensures ∙ ap (λ (k : ℕ). slice_index c.args.numbers.now k) same ∙ section_number_is b c.args.numbers.now i c.requires.numbers there.0)

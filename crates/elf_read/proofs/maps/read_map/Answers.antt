@@ -1,7 +1,8 @@
 use Rattle.std.proofs.Common.{◌≡◌, List, ℕ, true, false, refl, sym, ap, ◌∙◌, subst, filter}
 use Rattle.elf_model.specs.declared.objects.Section.{Section}
 use Rattle.elf_model.specs.Maps.{AreRows, is_map_named}
-use Rattle.elf_read.specs.MapRows.{HasNoMap, IsDenied, IsOnly, IsOnlyAt, is_plain, rising}
+use Rattle.elf_read.specs.MapRefusals.{HasNoMap, IsDenied}
+use Rattle.elf_read.specs.MapRows.{IsOnly, IsOnlyAt, is_plain, rising}
 use Rattle.elf_read.proofs.MapFaults.{the_section, same_section, not_plain, not_rising, map_found}
 use Rattle.elf_read.proofs.maps.read_map.Goals as goal
 
