@@ -11,7 +11,7 @@ use Rattle.elf_model.specs.declared.objects.RowKind.{RowKind}
 use Rattle.elf_model.specs.declared.objects.RowKind.TheVariants.{Start, Return}
 use Rattle.elf_model.specs.Fields.{word_at, word}
 use Rattle.elf_model.specs.Maps.{row_bytes, row_kind, RowFits, AreRows}
-use Rattle.elf_read.specs.MapRows.{HasNoRows, IsRow, IsRowAt, kind_of}
+use Rattle.elf_read.specs.MapRows.{HasNoRows, IsRow, IsRowAt, row_kind_of}
 
 -- a word that was read is its four bytes
 word_back : (xs : List ℕ) → 4 ≤ length xs → ((k : ℕ) → slice_index xs k < 256) → xs ≡ word (little_number 4 xs) ++ drop 4 xs
@@ -71,7 +71,7 @@ kind_low Return = omega arith
 kind_read : (b : List ℕ) (at : ℕ) (r : MapRow) (rest : List ℕ) → drop at b ≡ row_bytes r ++ rest → word_at b (at + 12) ≡ row_kind r.kind
 kind_read b at r rest e = word_read b (at + 12) (row_kind r.kind) rest (drop_further b at 12 (row_bytes r ++ rest) e) (kind_low r.kind)
 
-some_kind : (k : RowKind) → kind_of (row_kind k) ≡ None → ⊥
+some_kind : (k : RowKind) → row_kind_of (row_kind k) ≡ None → ⊥
 some_kind Start h = absurd (grind (arith, h))
 some_kind Return h = absurd (grind (arith, h))
 
@@ -82,8 +82,8 @@ same_kind Return Start e = absurd (omega (arith, e))
 same_kind Return Return e = refl
 
 -- no row has another code
-pub no_row : (b : List ℕ) (at : ℕ) → kind_of (word_at b (at + 12)) ≡ None → IsRowAt b at None
-no_row b at none = λ r rest e. some_kind r.kind (ap kind_of (sym (kind_read b at r rest e)) ∙ none)
+pub no_row : (b : List ℕ) (at : ℕ) → row_kind_of (word_at b (at + 12)) ≡ None → IsRowAt b at None
+no_row b at none = λ r rest e. some_kind r.kind (ap row_kind_of (sym (kind_read b at r rest e)) ∙ none)
 
 -- what is known of the rows read so far
 pub record AreRead (b : List ℕ) (i : ℕ) (rows : List MapRow) : Type 0 where
@@ -116,14 +116,18 @@ all_read b i rows l h = record {
   fit = h.fit;
 }
 
+further : (b rest : List ℕ) (i : ℕ) → drop 16 b ≡ rest → drop (16 * suc i) b ≡ drop (16 * i) rest
+further b rest i e =
+    let next : 16 * suc i ≡ 16 + 16 * i = omega arith in
+    ap (λ (m : ℕ). drop m b) next ∙ sym (drop-drop (16 * i) 16 b) ∙ ap (drop (16 * i)) e
+
 row_in : (rows : List MapRow) (i : ℕ) (b : List ℕ) → b ≡ flat_map row_bytes rows → 16 * i < length b → (r : MapRow) × (rest : List ℕ) × (drop (16 * i) b ≡ row_bytes r ++ rest)
 row_in [] i b e l = absurd (let n : length b ≡ 0 = ap length e in omega (arith, n, l))
 row_in (r ∷ rows) zero b e l = (r, flat_map row_bytes rows, e)
 row_in (r ∷ rows) (suc i) b e l =
     let n : length b ≡ 16 + length (flat_map row_bytes rows) = ap length e ∙ omega arith in
     let f = row_in rows i (flat_map row_bytes rows) refl (omega (arith, n, l)) in
-    let next : 16 * suc i ≡ 16 + 16 * i = omega arith in
-    (f.0, f.1, ap (λ (m : ℕ). drop m b) next ∙ sym (drop-drop (16 * i) 16 b) ∙ ap (λ (xs : List ℕ). drop (16 * i) (drop 16 xs)) e ∙ f.2)
+    (f.0, f.1, further b (flat_map row_bytes rows) i (ap (drop 16) e) ∙ f.2)
 
 pub no_rows : (b : List ℕ) (i : ℕ) → 16 * i < length b → IsRowAt b (16 * i) None → HasNoRows b
 no_rows b i l none = λ rows h. let f = row_in rows i b h.bytes l in none f.0 f.1 f.2
@@ -145,7 +149,7 @@ pub whole_rows : (rows : List MapRow) → length (flat_map row_bytes rows) ≡ 1
 whole_rows [] = refl
 whole_rows (r ∷ rows) = omega (arith, whole_rows rows)
 
-pub kind_back : (code : ℕ) (k : RowKind) → kind_of code ≡ Some k → code ≡ row_kind k
+pub kind_back : (code : ℕ) (k : RowKind) → row_kind_of code ≡ Some k → code ≡ row_kind k
 kind_back zero Start h = refl
 kind_back zero Return h = absurd (grind (arith, h))
 kind_back (suc zero) Start h = absurd (grind (arith, h))

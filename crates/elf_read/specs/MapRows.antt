@@ -36,8 +36,8 @@ IsOnly xs (Some k) = IsOnlyAt xs k
 abbrev pub is_plain : Section → Bool
 is_plain s = (s.kind == progbits) && (s.flags == 0) && (s.entry == 16) && (length s.bytes % 16 == 0)
 
-abbrev pub kind_of : ℕ → Option RowKind
-kind_of code = if code == 0 then Some Start else if code == 1 then Some Return else None
+abbrev pub row_kind_of : ℕ → Option RowKind
+row_kind_of code = if code == 0 then Some Start else if code == 1 then Some Return else None
 
 -- a row that stands at a place
 pub record IsRow (b : List ℕ) (at : ℕ) (r : MapRow) : Type 0 where

@@ -3,7 +3,7 @@
 ghost use Rattle.std.specs.Prelude.{◌≡◌, ◌≤◌, ◌+◌, ◌%◌, ℕ, length, IfOk, IfErr};
 ghost use Rattle.elf_model.specs.Maps.{row_kind, AreRows, HasMap, is_map_named};
 ghost use Rattle.elf_read.specs.MapRefusals.{HasNoMap, IsDenied, map_spot};
-ghost use Rattle.elf_read.specs.MapRows.{HasNoRows, IsNext, IsOnly, IsRowAt, is_before, is_plain, kind_of, may_come, rising};
+ghost use Rattle.elf_read.specs.MapRows.{HasNoRows, IsNext, IsOnly, IsRowAt, is_before, is_plain, row_kind_of, may_come, rising};
 
 use crate::headers::word;
 use elf_model::numbers::PROGBITS;
@@ -64,8 +64,8 @@ fn is_plain(s: &Section) -> bool
 }
 
 /// The kind of a row with a code.
-fn kind_of(code: u32) -> Option<RowKind>
-    ensures { result ≡ kind_of code }
+fn row_kind_of(code: u32) -> Option<RowKind>
+    ensures { result ≡ row_kind_of code }
 {
     if code == 0 {
         return Some(RowKind::Start);
@@ -81,7 +81,7 @@ fn row_at(bytes: &[u8], at: usize) -> Option<MapRow>
     requires inside { at + 16 ≤ length bytes.now }
     ensures { IsRowAt bytes.now at result }
 {
-    let Some(kind) = kind_of(word(bytes, at + 12)) else {
+    let Some(kind) = row_kind_of(word(bytes, at + 12)) else {
         return None;
     };
     Some(MapRow {

@@ -76,15 +76,15 @@ laid_within at (s ∷ ss) =
     let rest = laid_within (end_of at s) ss in
     omega (arith, one, rest, sum_by-cons weight s ss)
 
-abbrev bytes_of : Section → ℕ
-bytes_of s = length s.bytes
+abbrev byte_count : Section → ℕ
+byte_count s = length s.bytes
 
-own_within : (ss : List Section) → All (λ (s : Section). s.align ≤ 4096) ss → sum_by weight (map own_section ss) ≤ sum_by bytes_of ss + 4096 * length ss
+own_within : (ss : List Section) → All (λ (s : Section). s.align ≤ 4096) ss → sum_by weight (map own_section ss) ≤ sum_by byte_count ss + 4096 * length ss
 own_within [] a = omega arith
 own_within (s ∷ ss) a =
     let one = All-head (λ (x : Section). x.align ≤ 4096) s ss a in
     let rest = own_within ss (All-tail (λ (x : Section). x.align ≤ 4096) s ss a) in
-    omega (arith, one, rest, sum_by-cons weight (own_section s) (map own_section ss), sum_by-cons bytes_of s ss)
+    omega (arith, one, rest, sum_by-cons weight (own_section s) (map own_section ss), sum_by-cons byte_count s ss)
 
 rels_within : (o : ObjectParts) (ps : List (ℕ × Section)) → sum_by weight (map (reloc_section o) ps) ≡ 8 * length (flat_map (λ (p : ℕ × Section). relocs_in o p.0) ps) + 4 * length ps
 rels_within o [] = refl
@@ -128,7 +128,7 @@ pub record IsSmall (o : ObjectParts) : Type 0 where
   pub sections : length o.sections ≤ 1024
   pub symbols : length o.symbols ≤ 262144
   pub relocs : length o.relocs ≤ 524288
-  pub bytes : sum_by bytes_of o.sections < 2 ^ 30
+  pub bytes : sum_by byte_count o.sections < 2 ^ 30
 
 tables_within : (o : ObjectParts) → ObjectFacts o → IsSmall o → weight (symtab_section o) + (weight (strings_section (codes ".strtab") (symbol_names o)) + weight (strings_section (codes ".shstrtab") (section_names o))) ≤ 1087393832
 tables_within o f s =
@@ -186,7 +186,7 @@ fits o h s flags sections symbols relocs =
     let count = count_sections o in
     record { flags = flags; count = omega (arith, a, few, count); file = fits_file o h s; symbol_count = omega (arith, b); sections = sections; symbols = symbols; relocs = relocs }
 
-pub small : (o : ObjectParts) → IsTrue (is_within o any_limit) → sum_by bytes_of o.sections < 2 ^ 30 → IsSmall o
+pub small : (o : ObjectParts) → IsTrue (is_within o any_limit) → sum_by byte_count o.sections < 2 ^ 30 → IsSmall o
 small o h b =
     let x = and_parts (nat_le (length o.sections) 1024 && nat_le (length o.symbols) 262144 && nat_le (length o.relocs) 524288) (nat_le (code_size o.sections) 16777216) h in
     let y = and_parts (nat_le (length o.sections) 1024 && nat_le (length o.symbols) 262144) (nat_le (length o.relocs) 524288) x.0 in
