@@ -61,3 +61,8 @@ map_found o s rows h plain are rises = record {
   are_rows = are;
   rise = rise_is rows rises;
 }
+
+pub one_map : (o : ObjectParts) (rows others : List MapRow) → HasMap o rows → HasMap o others → rows ≡ others
+one_map o rows others m n =
+    let e = same_section m.section n.section (filter is_map_named o.sections) m.only n.only in
+    same_rows rows others (sym m.are_rows.bytes ∙ ap (λ (x : Section). x.bytes) e ∙ n.are_rows.bytes) m.are_rows.fit n.are_rows.fit

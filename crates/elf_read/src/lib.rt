@@ -27,7 +27,7 @@ mod whole;
 
 use elf_model::{Deny, Limit, Object};
 use keeping::{kept_flags, symbol_flags};
-pub use laws::written_files_are_faultless;
+pub use laws::{object_has_one_map, written_files_are_faultless};
 use malformed::first_malformed;
 pub use maps::read_map;
 use std::alloc::Global;
