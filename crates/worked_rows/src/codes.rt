@@ -36,7 +36,7 @@ fn is_listed(rt: &impl Abort, i: &Instr, text: &str) {
     assert_eq!(rt; &bytes[10..], text.as_bytes(), "{text}");
 }
 
-/// The row of an instruction, up to its text, and behind it.
+/// What stands behind the text of an instruction in its row.
 fn told(alloc: Global, i: &Instr) -> Result<String, AllocError> {
     let codes = codes(alloc, i)?;
     let (read, written, set) = (reads(i).bits(), writes(i).bits(), sets_flags(i).bits());
@@ -44,17 +44,16 @@ fn told(alloc: Global, i: &Instr) -> Result<String, AllocError> {
     format!(in alloc; "{codes}; {read:x} {written:x} {set:x}; {twice}")
 }
 
-/// A code of four or eight digits.
-fn decoded(rt: &impl Abort, code: &str) -> Instr {
-    let number = u32::from_str_radix(code, 16).expect(rt, "a code");
-    let first = (number >> 16) as u16;
-    let second = (number & 0xFFFF) as u16;
-    let found = if code.len() == 8 {
-        assert!(rt; is_wide(first), "{code}");
-        decode(first, Some(second), ItPlace::Outside)
-    } else {
-        assert!(rt; !is_wide(second), "{code}");
+/// The instruction of a code of one halfword, or of two.
+pub(crate) fn decoded(rt: &impl Abort, code: u32) -> Instr {
+    let first = (code / 65536) as u16;
+    let second = (code % 65536) as u16;
+    let found = if first == 0 {
+        assert!(rt; !is_wide(second), "{code:x}");
         decode(second, None, ItPlace::Outside)
+    } else {
+        assert!(rt; is_wide(first), "{code:x}");
+        decode(first, Some(second), ItPlace::Outside)
     };
     found.expect(rt, "an instruction")
 }
@@ -62,6 +61,7 @@ fn decoded(rt: &impl Abort, code: &str) -> Instr {
 fn is_told(rt: &impl Abort, alloc: Global, row: &str) -> Result<(), Fail> {
     let (code, rest) = row.split_once("; ").ok_or("a code")?;
     let (text, rest) = rest.split_once("; ").ok_or("a text")?;
+    let code = u32::from_str_radix(code, 16).expect(rt, "a code");
     let i = decoded(rt, code);
     is_listed(rt, &i, text);
     assert_eq!(rt; told(alloc, &i)?.as_str(), rest, "{row}");

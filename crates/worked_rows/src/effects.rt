@@ -3,10 +3,10 @@
 ghost use Rattle.std.specs.Prelude.{◌≡◌, ◌<◌, ◌+◌, ◌^◌, length, map};
 ghost use Rattle.std.specs.List.Sorted.{IsStrictlyIncreasing};
 
+use crate::codes::decoded;
 use mark_word::Word;
 use std::alloc::Global;
 use std::process::Abort;
-use thumb_decode::{ItPlace, decode};
 use thumb_table::{CodeBytes, Core, Memory, apply};
 
 /// A code; r1 and r2 before it; r0, and N, Z, C and V as digits, behind it. Before it r0 is 7, C and V are set.
@@ -111,17 +111,8 @@ fn flags(s: &Core) -> u32 {
 
 /// Carries out the instruction of a code.
 fn carried(rt: &impl Abort, alloc: Global, code: u32, from: [u32; 3]) -> Core {
+    let i = decoded(rt, code);
     let wide = code > 0xFFFF;
-    let found = if wide {
-        decode(
-            (code >> 16) as u16,
-            Some((code & 0xFFFF) as u16),
-            ItPlace::Outside,
-        )
-    } else {
-        decode((code & 0xFFFF) as u16, None, ItPlace::Outside)
-    };
-    let i = found.expect(rt, "an instruction");
     let mut s = registers(from);
     let mut memory = Memory::new(0x9000, Vec::new(alloc));
     let done = apply(&i, wide, &no_code(alloc), &mut s, &mut memory);

@@ -1,11 +1,12 @@
 //! Runs under plans.
 
-ghost use Rattle.std.specs.Prelude.{◌≡◌, ◌≤◌, length, IfOk};
+ghost use Rattle.std.specs.Prelude.{IfOk};
 ghost use Rattle.skip_machine.specs.Machines.{CanRun};
 
 use mark_word::Mark;
 use skip_machine::{Machine, Moved, Outcome, Plan, PlanErr};
 use std::alloc::{AllocError, Global};
+use std::process::Abort;
 use std::test::Fail;
 use thumb_table::{CodeBytes, FaultKind, Image, Memory};
 
@@ -81,14 +82,14 @@ const ROWS: [(Call, End); 21] = [
 ];
 
 /// An image at 0x8000 with room for 64 bytes and no data.
-fn image(alloc: Global, code: &[u16]) -> Result<Image, AllocError>
-    requires { length code.now ≤ 32 }
+fn image(rt: &impl Abort, alloc: Global, code: &[u16]) -> Result<Image, AllocError>
     ensures { IfOk result (λ i. CanRun i 64) }
 {
     let mut bytes = Vec::new(alloc);
     for half in code {
         bytes.extend_from_slice(&half.to_le_bytes())?;
     }
+    assert!(rt; bytes.len() <= 64);
     let stops = vec![in alloc; 0x8000]?;
     let code = CodeBytes::new(0x8000, bytes, Vec::new(alloc), stops);
     let memory = Memory::new(0x8040, Vec::new(alloc));
@@ -99,8 +100,8 @@ fn image(alloc: Global, code: &[u16]) -> Result<Image, AllocError>
 fn runs_under_plans(rt: HostRuntime) -> Result<(), Fail> {
     let alloc = rt.alloc();
     for ((code, args, skips, most), (outcome, steps, r0, ordinary)) in ROWS {
-        assert!(rt; code.len() <= 32 && most <= 10_000);
-        let mut machine = Machine::new(alloc, &image(alloc, code)?, 64)?;
+        assert!(rt; most <= 10_000);
+        let mut machine = Machine::new(alloc, &image(&rt, alloc, code)?, 64)?;
         let plan = Plan::read(alloc, skips, 2)?;
         machine.start(0x8001, &args);
         assert_eq!(rt; machine.run(most, &plan), outcome, "{skips} of {code:?}");
@@ -125,7 +126,7 @@ fn runs_a_loop_under_skips(rt: HostRuntime) -> Result<(), Fail> {
         let next = format!(in alloc; ",{}", 2 * k + 1)?;
         skips.push_str(&next)?;
     }
-    let mut machine = Machine::new(alloc, &image(alloc, LOOP_TWICE)?, 64)?;
+    let mut machine = Machine::new(alloc, &image(&rt, alloc, LOOP_TWICE)?, 64)?;
     machine.start(0x8001, &[9]);
     let plan = Plan::read(alloc, &skips, 2)?;
     assert_eq!(rt; machine.run(8_008, &plan), Outcome::Returned);
@@ -137,7 +138,7 @@ fn runs_a_loop_under_skips(rt: HostRuntime) -> Result<(), Fail> {
 #[test]
 fn starts_and_steps(rt: HostRuntime) -> Result<(), Fail> {
     let alloc = rt.alloc();
-    let image = image(alloc, &PLAIN)?;
+    let image = image(&rt, alloc, PLAIN)?;
     let mut machine = Machine::new(alloc, &image, 64)?;
     assert!(rt; !machine.is_running());
     machine.start(0x8001, &[9, 8, 7, 6]);
