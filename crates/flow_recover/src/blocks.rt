@@ -5,16 +5,17 @@ ghost use Rattle.std.specs.List.{list_all};
 ghost use Rattle.elf_model.specs.Objects.{is_within};
 ghost use Rattle.elf_model.specs.Ranges.{is_whole};
 ghost use Rattle.flow_recover.specs.declared.blocks.Block.{Block};
-ghost use Rattle.flow_recover.specs.Starts.{following};
+ghost use Rattle.reloc_places.specs.Starts.{following};
 ghost use Rattle.flow_recover.specs.FlowFaults.{block_length as block_length_of, IsInBlock};
 ghost use Rattle.flow_recover.specs.Charts.{IsChart, AreNodes};
 ghost use Rattle.flow_recover.specs.Gains.{has_place, PlacesGain};
 ghost use Rattle.flow_recover.specs.NodeFaults.{mask_of, IsBlock, IsBelow, IsMember, IsBlockPlace, IsCut};
 
 use crate::charts::{Chart, end_at};
-use crate::instructions::{behind, bytes_of, instr_of, length_from};
+use crate::instructions::{behind, instr_of};
 use crate::nodes::Node;
 use elf_model::{Limit, Object};
+use reloc_places::{bytes_of, length_from};
 use std::alloc::{AllocError, Global};
 use std::collections::BTreeSet;
 use thumb_instr::Instr;
@@ -48,7 +49,7 @@ fn mask_of(i: &Instr) -> Option<u8>
     ensures { result ≡ mask_of i.now }
 {
     match i {
-        Instr::It(i) => Some(i.mask()),
+        Instr::It(i) => Some(i.mask),
         _ => None,
     }
 }

@@ -3,9 +3,9 @@
 ghost use Rattle.std.specs.Prelude.{◌≡◌, ◌↔◌, ◌≤◌, ◌^◌, ℕ, Some, true, map, length, ◌+◌, IfOk, OnOk, IsTrue};
 ghost use Rattle.std.specs.BTreeSet.{contains, btree_set_len, IsOrdered};
 ghost use Rattle.elf_model.specs.Objects.{ObjectParts, is_within};
-ghost use Rattle.flow_recover.specs.Spans.{place_cmp};
+ghost use Rattle.code_ranges.specs.Spans.{place_cmp};
 ghost use Rattle.flow_recover.specs.FlowFaults.{literal_place as literal_place_of};
-ghost use Rattle.flow_recover.specs.Relocations.{reloc_at};
+ghost use Rattle.reloc_places.specs.Relocations.{reloc_at};
 ghost use Rattle.flow_recover.specs.Charts.{IsChart, AreNodes};
 ghost use Rattle.flow_recover.specs.Gains.{PlacesGain};
 ghost use Rattle.flow_recover.specs.Settled.{IsNamedBy, IsLoad, IsLoadedPlace, ArePlaces, word_at};
@@ -25,8 +25,8 @@ pub(crate) fn literal_place(offset: u32, l: &Literal) -> Option<u32>
     ensures { result ≡ literal_place_of offset l.now }
 {
     let base = (offset + 4) / 4 * 4;
-    let by = u32::from(l.imm());
-    if l.up() {
+    let by = u32::from(l.imm);
+    if l.up {
         Some(base + by)
     } else if by <= base {
         Some(base - by)

@@ -11,11 +11,12 @@ use crate::aims::{Aim, aim_of, is_branch};
 use crate::charts::Chart;
 use crate::edges::next_of;
 use crate::indexes::{node_index, place_index};
-use crate::instructions::{bytes_of, found, length_at};
+use crate::instructions::found;
 use crate::literals::{literal_place, reloc_of};
 use crate::nodes::Node;
 use crate::{Exit, Point};
 use elf_model::{Limit, Object};
+use reloc_places::{bytes_of, length_at};
 use std::alloc::{AllocError, Global};
 use thumb_instr::{Instr, block_condition};
 
@@ -26,12 +27,12 @@ fn plain_exit(i: &Instr) -> Exit
     match i {
         Instr::Call(_) => Exit::Call,
         Instr::CallReg(_) => Exit::Call,
-        Instr::Jump(j) => if j.m().number() == 14 {
+        Instr::Jump(j) => if j.m.number() == 14 {
             Exit::Return
         } else {
             Exit::Transfer
         },
-        Instr::Multi(m) => if m.pc() { Exit::Return } else { Exit::Falls },
+        Instr::Multi(m) => if m.pc { Exit::Return } else { Exit::Falls },
         Instr::Trap(_) => Exit::Stops,
         _ => Exit::Falls,
     }
