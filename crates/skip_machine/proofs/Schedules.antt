@@ -1,5 +1,5 @@
 -- Consecutive numbers in a list that rises.
-use Rattle.std.proofs.Common.{◌≡◌, ◌≢◌, ℕ, zero, suc, ◌+◌, ◌-◌, ◌<◌, ◌≤◌, true, List, length, get_or, arith, refl, sym, ap, ◌∙◌, add-zero}
+use Rattle.std.proofs.Common.{◌≡◌, ◌≢◌, ℕ, zero, suc, ◌+◌, ◌-◌, ◌<◌, ◌≤◌, true, List, length, get_or, arith, ap, add-zero}
 use Rattle.std.specs.List.Sorted.{IsStrictlyIncreasing}
 use Rattle.thumb_table.specs.Schedules.{is_in}
 use Rattle.thumb_table.proofs.StopLemmas.{rises}

@@ -1,6 +1,6 @@
-use Rattle.std.proofs.Common.{◌≡◌, ◌<◌, arith, sym, subst, ◌∙◌}
+use Rattle.std.proofs.Common.{◌≡◌, arith, sym, subst, ◌∙◌}
 use Rattle.std.proofs.lemmas.Fmt.{decimal_injective}
-use Rattle.skip_machine.specs.Paces.{IsNext, run_with}
+use Rattle.skip_machine.specs.Paces.{IsNext}
 use Rattle.skip_machine.proofs.plan_texts.next_step.Goals as goal
 use Rattle.skip_machine.proofs.plan_texts.next_step.Goals.{then-step-pace-via-then-step-pace, then-step-pace-via-else-step-pace+then-step-ge9223372036854775808, then-step-pace-via-else-step-pace+else-step-ge9223372036854775808+then-copies-run_with}
 

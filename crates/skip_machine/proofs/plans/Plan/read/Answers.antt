@@ -1,5 +1,4 @@
-use Rattle.std.proofs.Common.{◌≡◌, ◌<◌, List, ℕ, length, refl, sym, subst}
-use Rattle.std.specs.List.Sorted.{IsStrictlyIncreasing}
+use Rattle.std.proofs.Common.{◌<◌, List, ℕ, length, refl, sym, subst}
 use Rattle.skip_machine.specs.Plans.{IsPlanText, AreNumbers}
 use Rattle.skip_machine.proofs.PlanTexts.{plan_is_numbers, only_numbers, some_there}
 use Rattle.skip_machine.proofs.plans.Plan.read.Goals as goal
