@@ -9,7 +9,7 @@ ghost use Rattle.guard_cli.specs.Arranged.{value_in, IsPlacing, IsSaid, IsSchedu
 
 use crate::numbers::number_of;
 use crate::options::Options;
-use crate::plans::is_plan;
+use skip_machine::is_plan;
 use thumb_table::Placement;
 
 /// The stack of every command.
@@ -106,7 +106,7 @@ pub(crate) fn schedule_of<'a>(skip: Option<&'a str>, seed: Option<&str>) -> Opti
     match (skip, seed) {
         (None, None) => Some(Schedule::Listed("")),
         (Some(list), None) => {
-            if is_plan(list) {
+            if is_plan(list, 2) {
                 Some(Schedule::Listed(list))
             } else {
                 None

@@ -1,8 +1,8 @@
 use Rattle.std.proofs.Common.{refl, sym, subst}
 use Rattle.std.proofs.lemmas.Bool.{false≢true}
-use Rattle.guard_cli.specs.Arranged.{IsPlain}
-use Rattle.guard_cli.proofs.NumberTexts.{only_plain, plain_is_read, decimal_is_read}
-use Rattle.guard_cli.proofs.numbers.decimal_of.Goals as goal
+use Rattle.skip_machine.specs.Decimals.{IsPlain}
+use Rattle.skip_machine.proofs.DecimalTexts.{only_plain, plain_is_read, decimal_is_read}
+use Rattle.skip_machine.proofs.decimals.decimal_of.Goals as goal
 
 pub returns-then-not-is_plain : goal.returns-then-not-is_plain
 returns-then-not-is_plain c = only_plain c.args.text.now (λ plain. false≢true (c.if-not-is_plain.ensures.1 (subst IsPlain (sym c.as_bytes.ensures.value) plain)))
