@@ -5,7 +5,7 @@ use Rattle.std.proofs.lemmas.Fmt.{decimal_digit, decimal_step}
 use Rattle.std.proofs.lemmas.List.Elements.{All-nil, All-cons}
 use Rattle.std.proofs.lemmas.List.Quantifiers.{all_pairs_push}
 use Rattle.skip_machine.specs.Plans.{IsPlanText}
-use Rattle.thumb_table.specs.Images.{IsPlacement}
+use Rattle.thumb_table.specs.Layouts.{IsPlacement}
 use Rattle.guard_cli.specs.declared.options.OptionName.TheVariants.{Base, Room, Entry, Steps, Skip}
 use Rattle.guard_cli.specs.Words.{IsFileName, IsHexDigit, IsNumber, Setting, value_of, IsLink, listed, IsRun}
 use Rattle.guard_cli.proofs.Arrangements.{AreTwo, HasValue, absent}

@@ -6,7 +6,8 @@ use Rattle.elf_model.specs.Objects.{ObjectParts, is_code}
 use Rattle.elf_model.specs.Maps.{HasMap}
 use Rattle.thumb_table.specs.States.{State}
 use Rattle.thumb_table.specs.Schedules.{IsLegal, Returns, OrdinaryRun, is_in}
-use Rattle.thumb_table.specs.Images.{IsImage, code_bytes_of, entry_of, start}
+use Rattle.thumb_table.specs.Layouts.{code_bytes_of}
+use Rattle.thumb_table.specs.Images.{IsImage, entry_of, start}
 use Rattle.thumb_table.specs.Parts.{Image}
 use Rattle.thumb_table.specs.declared.placements.Placement.{Placement}
 use Rattle.guard_cli.specs.AddressMaps.{TakesEntry, SameState}

@@ -2,7 +2,7 @@
 
 ghost use Rattle.std.specs.Prelude.{◌≡◌, ◌⊎◌, ◌↔◌, ◌≤◌, ℕ, List, Option, Some, IsTrue, MatchOption};
 ghost use Rattle.std.specs.Option.{option_copied};
-ghost use Rattle.thumb_table.specs.Images.{IsPlacement};
+ghost use Rattle.thumb_table.specs.Layouts.{IsPlacement};
 ghost use Rattle.thumb_table.specs.declared.placements.Placement.{Placement};
 ghost use Rattle.guard_cli.specs.Words.{IsPlacedBy, IsNumberOf, Skips, AreSkips, RunWords, IsRunBy};
 ghost use Rattle.guard_cli.specs.Arranged.{value_in, IsPlacing, IsSaid, IsSchedule};
