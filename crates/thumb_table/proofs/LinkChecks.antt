@@ -8,7 +8,8 @@ use Rattle.thumb_instr.specs.Rows.{Answer}
 use Rattle.thumb_table.specs.declared.placements.Placement.{Placement}
 use Rattle.thumb_table.specs.Layouts.{all_placed, part_of}
 use Rattle.thumb_table.specs.Names.{meant}
-use Rattle.thumb_table.specs.Links.{Link, covers, renumbered}
+use Rattle.thumb_instr.specs.Numbers.{renumbered}
+use Rattle.thumb_table.specs.Links.{Link, covers}
 
 abbrev pub link_of : List ObjectParts → Placement → ℕ → ObjectParts → ℕ → Reloc → Option Link
 link_of objects at i o k r =

@@ -13,8 +13,7 @@ use Rattle.mark_word.specs.declared.marks.Mark.TheVariants.{Plain, Entry, Low}
 use Rattle.mark_word.specs.Words.{Cell}
 use Rattle.mark_word.specs.Marks.{pieces}
 use Rattle.thumb_instr.specs.declared.instructions.Instr.{Instr}
-use Rattle.thumb_instr.specs.declared.instructions.Instr.TheVariants as instr
-use Rattle.thumb_instr.specs.Meanings.{signed}
+use Rattle.thumb_instr.specs.Numbers.{renumbered}
 use Rattle.thumb_table.specs.declared.placements.Placement.{Placement}
 use Rattle.reloc_places.specs.Starts.{decoded_at}
 use Rattle.reloc_places.specs.Relocations.{is_word, is_jump, addend}
@@ -85,13 +84,6 @@ mark_for _ full = Entry full
 
 abbrev pub mark_of : List Placed → Link → Mark
 mark_of parts l = if leads_to_code parts l && not (is_jump l.reloc.kind) then mark_for l.reloc.kind (full parts l) else Plain
-
--- an instruction with another number in place of its own; an offset is given modulo 2^32
-abbrev pub renumbered : ℕ → Instr → Instr
-renumbered n (instr.Branch i) = instr.Branch (record i { offset = signed 32 n })
-renumbered n (instr.Call i) = instr.Call (record i { offset = signed 32 n })
-renumbered n (instr.Half i) = instr.Half (record i { imm = n })
-renumbered n i = i
 
 -- What stands at x of the old bytes stands at y of the new ones, in as many bytes, with the number n in place of its own.
 pub record Renumbers (old : List ℕ) (x n : ℕ) (new : List ℕ) (y : ℕ) : Type 0 where
