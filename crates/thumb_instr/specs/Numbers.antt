@@ -16,7 +16,7 @@ has_number (Branch i) = true
 has_number (Call i) = true
 has_number i = false
 
--- the same instruction with this number
+-- an instruction with another number in place of its own; an offset is given modulo 2^32
 abbrev pub renumbered : ℕ → Instr → Instr
 renumbered n (Half i) = Half (record i { imm = n })
 renumbered n (Branch i) = Branch (record i { offset = signed 32 n })

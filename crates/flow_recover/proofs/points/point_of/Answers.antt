@@ -1,5 +1,5 @@
 use Rattle.std.proofs.Common.{◌≤◌, ℕ, ◌+◌, List, length, refl, sym, subst, arith}
-use Rattle.flow_recover.proofs.StartFacts.{IsInside, start_inside}
+use Rattle.reloc_places.proofs.StartFacts.{IsInside, start_inside}
 use Rattle.flow_recover.proofs.PointFacts.{has_half, is_point_wide}
 use Rattle.flow_recover.proofs.points.point_of.Goals as goal
 
@@ -9,6 +9,11 @@ length_at-wide-requires c =
 
 pub loaded_word-requires-clause-small : goal.loaded_word-requires-clause-small
 loaded_word-requires-clause-small c =
+    let inside : IsInside c.args.o.now c.args.n.section c.args.n.offset c.requires.found.end = start_inside c.args.o.now _ _ _ c.sound.ensures c.requires.within c.requires.found.start in
+    omega (arith, inside.before_end, inside.in_bytes, inside.small)
+
+pub next_index-requires-clause-low : goal.next_index-requires-clause-low
+next_index-requires-clause-low c =
     let inside : IsInside c.args.o.now c.args.n.section c.args.n.offset c.requires.found.end = start_inside c.args.o.now _ _ _ c.sound.ensures c.requires.within c.requires.found.start in
     omega (arith, inside.before_end, inside.in_bytes, inside.small)
 
