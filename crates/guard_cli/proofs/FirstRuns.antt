@@ -21,10 +21,10 @@ use Rattle.thumb_instr.specs.Blocks.{place_in_block}
 use Rattle.thumb_table.specs.States.{Core, State, Change, Site, Jumps, at, read, applied, unchanged}
 use Rattle.thumb_table.specs.Effects.{change, jump_to}
 use Rattle.thumb_table.specs.Steps.{Fetched, takes_effect, goes_on, step_of}
-use Rattle.thumb_table.specs.Schedules.{run, exit, Returns}
+use Rattle.thumb_table.specs.Schedules.{run, exit, Returns, ReturnsWithin}
 use Rattle.guard_cli.specs.Output.{doubled}
-use Rattle.guard_cli.proofs.Groups.{Legal, Leaps, JumpGroup, Comes, it_stays, steps_to, first_step, run_on, comes_on, returns_of, jump_group}
-use Rattle.guard_cli.proofs.Sequences.{Stands, Chain, Settles, stands_split, sequence, ends_once}
+use Rattle.guard_cli.proofs.Groups.{Legal, Leaps, JumpGroup, Comes, it_stays, steps_to, first_step, run_on, comes_on, jump_group}
+use Rattle.guard_cli.proofs.Sequences.{Stands, Chain, Settles, stands_split, sequence, returns_of, ends_once}
 use Rattle.guard_cli.proofs.Standing.{narrow, IsNarrow, stands_all, fetch_past, doubled_copies, single_copies, length-code_bytes}
 
 -- `movs d, #i`
@@ -204,14 +204,14 @@ plain_run code halves first bytes x ready =
     run_on code (λ i. false) n 1 (length halves) 0 n (at code.base x) (at parts.0 y) count (omega arith) body ∙ last
 
 -- Each plain call of the code ends there, after as many steps.
-pub plain_end : (code : CodeBytes) (halves : List ℕ) → (first : IsFirstCode halves) → code.bytes ≡ code_bytes halves → code.base + 2 * length halves ≤ 0x7FFFF000 → (x : Core) → IsReady x → (n : ℕ) (t : State) → (r : Returns code (λ i. false) n (at code.base x) t) → (r.steps ≡ length halves) × (t ≡ at exit (after_moves first.moves x))
+pub plain_end : (code : CodeBytes) (halves : List ℕ) → (first : IsFirstCode halves) → code.bytes ≡ code_bytes halves → code.base + 2 * length halves ≤ 0x7FFFF000 → (x : Core) → IsReady x → (n : ℕ) (t : State) → Returns code (λ i. false) n 0 (at code.base x) t → (n ≡ length halves) × (t ≡ at exit (after_moves first.moves x))
 plain_end code halves first bytes room x ready n t r =
     let none = fetch_past code exit (omega (arith, ap length bytes, length-code_bytes halves)) in
-    ends_once code (λ i. false) r.steps (length halves) 0 (at code.base x) t (at exit (after_moves first.moves x)) none r.over refl r.runs (plain_run code halves first bytes x ready)
+    ends_once code (λ i. false) n (length halves) 0 (at code.base x) t (at exit (after_moves first.moves x)) none r.over refl r.goes.runs (plain_run code halves first bytes x ready)
 
 -- THE HARDENED RUN: each instruction twice, under each legal schedule
-pub hard_run : (code : CodeBytes) (halves : List ℕ) → (first : IsFirstCode halves) → code.bytes ≡ code_bytes (doubled halves) → (x : Core) → IsReady x → (skips : ℕ → Bool) → Legal 2 skips → Returns code skips (2 * length halves) (at code.base x) (at exit (after_moves first.moves x))
-hard_run code halves first bytes x ready skips legal =
+pub hard_run : (code : CodeBytes) (halves : List ℕ) → (first : IsFirstCode halves) → code.bytes ≡ code_bytes (doubled halves) → code.base + length code.bytes ≤ 0x7FFFF000 → (x : Core) → IsReady x → (skips : ℕ → Bool) → Legal 2 skips → ReturnsWithin code skips (2 * length halves) 0 (at code.base x) (at exit (after_moves first.moves x))
+hard_run code halves first bytes room x ready skips legal =
     let moves = first.moves in
     let y = after_moves moves x in
     let q = code.base + 2 * length (doubled halves) in
@@ -231,4 +231,9 @@ hard_run code halves first bytes x ready skips legal =
     let last = jump_group code skips 2 (0 + n) parts.0 exit y y (still_ready moves x ready).clear jumps l.0 l.1 l.2 in
     let begun : Comes code skips n 0 (at code.base x) (at parts.0 y) = record { steps = n; within = omega arith; runs = body } in
     let count : n + 2 ≡ 2 * length halves = omega (arith, length-map moves narrow, length_of halves first) in
-    returns_of code skips (2 * length halves) (at code.base x) (at exit y) refl (comes_on code skips n 2 (2 * length halves) 0 (at code.base x) (at parts.0 y) (at exit y) count begun last)
+    let whole = comes_on code skips n 2 (2 * length halves) 0 (at code.base x) (at parts.0 y) (at exit y) count begun last in
+    record {
+      steps = whole.steps;
+      within = whole.within;
+      returns = returns_of code skips whole.steps 0 (at code.base x) (at exit y) (fetch_past code exit (omega arith)) (λ e. let same : code.base ≡ 0x7FFFFFFE = e in omega arith) refl whole.runs;
+    }

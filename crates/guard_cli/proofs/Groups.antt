@@ -6,7 +6,7 @@ use Rattle.thumb_instr.specs.Blocks.{it_after}
 use Rattle.thumb_table.specs.States.{Core, State, at}
 use Rattle.thumb_table.specs.declared.faults.FaultKind.{FaultKind}
 use Rattle.thumb_table.specs.Steps.{Fetched, fetch, step_of, move}
-use Rattle.thumb_table.specs.Schedules.{IsLegal, is_in, go_on, run, exit, Returns}
+use Rattle.thumb_table.specs.Schedules.{IsLegal, is_in, go_on, run}
 
 -- of c steps in a row one is executed
 abbrev pub Legal : ℕ → (ℕ → Bool) → Type 0
@@ -82,10 +82,6 @@ comes_on code skips a b n i s m t en c d = record {
   within = omega (arith, c.within, d.within);
   runs = run_through code skips c.steps d.steps i s m t c.runs d.runs;
 }
-
--- what has come to the exit has returned
-pub returns_of : (code : CodeBytes) (skips : ℕ → Bool) (n : ℕ) (s t : State) → t.pc ≡ exit → Comes code skips n 0 s t → Returns code skips n s t
-returns_of code skips n s t over c = record { steps = c.steps; within = c.within; runs = c.runs; over = over }
 
 -- outside of a block the IT state stays
 pub it_stays : (x : Core) → x.it ≡ 0 → record x { it = it_after x.it } ≡ x

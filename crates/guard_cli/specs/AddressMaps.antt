@@ -66,10 +66,18 @@ SameByte plain hard maps (Some p) b h = (bits word : ℕ) × SameBits plain hard
 abbrev pub SameCell : Image → Image → List (List MapRow) → Cell → Cell → Type 0
 SameCell plain hard maps c d = SameByte plain hard maps c.piece c.byte d.byte
 
--- r0 to r11, sp and every byte of memory are the same up to code addresses.
-pub record SameState (plain hard : Image) (maps : List (List MapRow)) (s t : State) : Type 0 where
-  pub low : (r : ℕ) → r < 12 → SameWord plain hard maps (read s.core r) (read t.core r)
+-- sp and every byte of memory are the same up to code addresses.
+pub record SameMemory (plain hard : Image) (maps : List (List MapRow)) (s t : State) : Type 0 where
   pub stack : SameWord plain hard maps (read s.core 13) (read t.core 13)
   pub base : t.core.memory.base ≡ s.core.memory.base
   pub size : length t.core.memory.cells ≡ length s.core.memory.cells
   pub cells : (k : ℕ) → k < length s.core.memory.cells → SameCell plain hard maps (get_or s.core.memory.cells k (bare 0)) (get_or t.core.memory.cells k (bare 0))
+
+-- So are the results of a call, which are in so many registers from r0 on, and r4 to r11.
+pub record SameResults (plain hard : Image) (maps : List (List MapRow)) (results : ℕ) (s t : State) : Type 0 where
+  pub given : (r : ℕ) → r < results → SameWord plain hard maps (read s.core r) (read t.core r)
+  pub kept : (r : ℕ) → 4 ≤ r → r < 12 → SameWord plain hard maps (read s.core r) (read t.core r)
+
+pub record SameState (plain hard : Image) (maps : List (List MapRow)) (results : ℕ) (s t : State) : Type 0 where
+  pub memory : SameMemory plain hard maps s t
+  pub registers : SameResults plain hard maps results s t

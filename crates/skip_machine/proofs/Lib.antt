@@ -5,5 +5,4 @@ pub mod Walks
 pub mod Further
 pub mod Schedules
 pub mod PlanTexts
-pub mod Calls
 pub mod Moving

@@ -12,13 +12,11 @@ pub use Rattle.elf_model.specs.Objects.{is_data, even}
 use Rattle.elf_model.specs.Canonical.{round_up}
 use Rattle.elf_model.specs.declared.ranges.RangeKind.TheVariants.{Data}
 use Rattle.elf_model.specs.Ranges.{IsBeginning}
-use Rattle.mark_word.specs.declared.marks.Mark.TheVariants.{Return}
-use Rattle.mark_word.specs.Words.{Word, Cell, plain, bare}
+use Rattle.mark_word.specs.Words.{bare}
 use Rattle.thumb_table.specs.declared.placements.Placement.{Placement}
 use Rattle.thumb_table.specs.Parts.{Image}
 use Rattle.thumb_table.specs.declared.parts.Part.{Part}
 use Rattle.thumb_table.specs.declared.parts.NamedEntry.{NamedEntry}
-use Rattle.thumb_table.specs.States.{State}
 
 -- A placement is where code and data go: code from `base` on, in `room` bytes, then data, then `stack` bytes.
 pub record IsPlacement (at : Placement) : Type 0 where
@@ -196,34 +194,3 @@ entry_of (e ∷ rest) name = if same_name e.name name then Some e.address else e
 abbrev pub image_bytes : Image → List ℕ
 image_bytes image =
     image.code.bytes ++ replicate (image.room - length image.code.bytes) 0 ++ map (λ c. c.byte) image.memory.cells
-
--- the memory of a run: the data, rounded up to a multiple of 8, and the stack
-abbrev pub run_cells : Image → ℕ → List Cell
-run_cells image stack =
-    image.memory.cells ++ replicate (round_up (length image.memory.cells) 8 - length image.memory.cells) (bare 0) ++ replicate stack (bare 0)
-
--- how many arguments go to registers
-abbrev pub argument : List ℕ → ℕ → Word
-argument [] k = plain 0
-argument (a ∷ rest) zero = plain a
-argument (a ∷ rest) (suc k) = argument rest k
-
--- A call starts so: arguments from r0 on, sp at the stack's end, lr where the call ends, all else 0.
-abbrev pub start_regs : List ℕ → ℕ → List Word
-start_regs args sp =
-    argument args 0 ∷ argument args 1 ∷ argument args 2 ∷ argument args 3 ∷ replicate 9 (plain 0)
-    ++ plain sp ∷ record { bits = 0x7FFFFFFF; mark = Return 0x7FFFFFFF } ∷ []
-
-abbrev pub start : Image → ℕ → ℕ → List ℕ → State
-start image stack entry args = record {
-  pc = even entry;
-  core = record {
-    regs = start_regs args (image.memory.base + length (run_cells image stack));
-    n = false;
-    z = false;
-    c = false;
-    v = false;
-    it = 0;
-    memory = record { base = image.memory.base; cells = run_cells image stack };
-  };
-}

@@ -7,5 +7,6 @@ pub mod Ordinary
 pub mod Steps
 pub mod Schedules
 pub mod Images
+pub mod Calls
 pub mod Views
 pub mod Results
