@@ -28,9 +28,9 @@ fn number_of(i: &Instr) -> u32
     ensures { result ≡ number_in (Ok i.now) }
 {
     match i {
-        Instr::Branch(i) => i.offset().cast_unsigned(),
-        Instr::Call(i) => i.offset().cast_unsigned(),
-        Instr::Half(i) => signed(i.imm()).cast_unsigned(),
+        Instr::Branch(i) => i.offset.cast_unsigned(),
+        Instr::Call(i) => i.offset.cast_unsigned(),
+        Instr::Half(i) => signed(i.imm).cast_unsigned(),
         _ => 0,
     }
 }

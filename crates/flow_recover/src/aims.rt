@@ -57,9 +57,9 @@ fn offset_of(i: &Instr) -> i32
     ensures { result ≡ offset_of i.now }
 {
     match i {
-        Instr::Branch(i) => i.offset(),
-        Instr::ZeroBranch(i) => i.offset(),
-        Instr::Call(i) => i.offset(),
+        Instr::Branch(i) => i.offset,
+        Instr::ZeroBranch(i) => i.offset,
+        Instr::Call(i) => i.offset,
         _ => 0,
     }
 }

@@ -48,7 +48,7 @@ fn mask_of(i: &Instr) -> Option<u8>
     ensures { result ≡ mask_of i.now }
 {
     match i {
-        Instr::It(i) => Some(i.mask()),
+        Instr::It(i) => Some(i.mask),
         _ => None,
     }
 }

@@ -24,11 +24,11 @@ fn falls(i: &Instr) -> bool
     ensures { result ≡ falls i.now }
 {
     match i {
-        Instr::Branch(i) => may_fail(i.cond()),
+        Instr::Branch(i) => may_fail(i.cond),
         Instr::Call(_) => false,
         Instr::CallReg(_) => false,
         Instr::Jump(_) => false,
-        Instr::Multi(i) => !i.pc(),
+        Instr::Multi(i) => !i.pc,
         Instr::Trap(_) => false,
         _ => true,
     }

@@ -32,10 +32,7 @@ pub fn state_behind(i: &Instr, it: u8) -> u8
     ensures { result ≡ it_behind i.now it }
 {
     match i {
-        Instr::It(i) => {
-            i.valid();
-            it_state(i.first(), i.mask())
-        }
+        Instr::It(i) => it_state(i.first, i.mask),
         _ => it_after(it),
     }
 }

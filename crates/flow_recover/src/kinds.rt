@@ -80,7 +80,7 @@ fn is_b(conditional: bool, i: &Instr) -> bool
     ensures { result ≡ is_b_instr conditional i.now }
 {
     match i {
-        Instr::Branch(i) => may_fail(i.cond()) == conditional,
+        Instr::Branch(i) => may_fail(i.cond) == conditional,
         _ => false,
     }
 }
@@ -90,7 +90,7 @@ fn is_mov(top: bool, i: &Instr) -> bool
     ensures { result ≡ is_mov_instr top i.now }
 {
     match i {
-        Instr::Half(i) => i.top() == top,
+        Instr::Half(i) => i.top == top,
         _ => false,
     }
 }

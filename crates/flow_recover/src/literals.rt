@@ -25,8 +25,8 @@ pub(crate) fn literal_place(offset: u32, l: &Literal) -> Option<u32>
     ensures { result ≡ literal_place_of offset l.now }
 {
     let base = (offset + 4) / 4 * 4;
-    let by = u32::from(l.imm());
-    if l.up() {
+    let by = u32::from(l.imm);
+    if l.up {
         Some(base + by)
     } else if by <= base {
         Some(base - by)

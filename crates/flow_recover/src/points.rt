@@ -26,12 +26,12 @@ fn plain_exit(i: &Instr) -> Exit
     match i {
         Instr::Call(_) => Exit::Call,
         Instr::CallReg(_) => Exit::Call,
-        Instr::Jump(j) => if j.m().number() == 14 {
+        Instr::Jump(j) => if j.m.number() == 14 {
             Exit::Return
         } else {
             Exit::Transfer
         },
-        Instr::Multi(m) => if m.pc() { Exit::Return } else { Exit::Falls },
+        Instr::Multi(m) => if m.pc { Exit::Return } else { Exit::Falls },
         Instr::Trap(_) => Exit::Stops,
         _ => Exit::Falls,
     }

@@ -14,7 +14,7 @@ fn branch_cond(i: &Instr) -> Cond
     ensures { result ≡ branch_cond i.now }
 {
     match i {
-        Instr::Branch(i) => i.cond(),
+        Instr::Branch(i) => i.cond,
         _ => Cond::Al,
     }
 }

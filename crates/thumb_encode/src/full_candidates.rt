@@ -123,32 +123,26 @@ fn alu_number(op: AluOp) -> u32
 fn alu_code(a: &Alu) -> u32
     ensures { result ≡ data_code_of (alu_number_of a.now.op) a.now.s a.now.n a.now.d a.now.x }
 {
-    data_code(
-        alu_number(a.op()),
-        a.s(),
-        number(a.n()),
-        number(a.d()),
-        a.x(),
-    )
+    data_code(alu_number(a.op), a.s, number(a.n), number(a.d), a.x)
 }
 
 fn move_code(a: &Move) -> u32
     ensures { result ≡ data_code_of (move_number_of a.now.op) a.now.s 15 a.now.d a.now.x }
 {
-    match a.op() {
-        MoveOp::Mov => data_code(2, a.s(), 15, number(a.d()), a.x()),
-        MoveOp::Mvn => data_code(3, a.s(), 15, number(a.d()), a.x()),
+    match a.op {
+        MoveOp::Mov => data_code(2, a.s, 15, number(a.d), a.x),
+        MoveOp::Mvn => data_code(3, a.s, 15, number(a.d), a.x),
     }
 }
 
 fn test_code(a: &Test) -> u32
     ensures { result ≡ data_code_of (test_number_of a.now.op) true a.now.n 15 a.now.x }
 {
-    match a.op() {
-        TestOp::Tst => data_code(0, true, number(a.n()), 15, a.x()),
-        TestOp::Teq => data_code(4, true, number(a.n()), 15, a.x()),
-        TestOp::Cmn => data_code(8, true, number(a.n()), 15, a.x()),
-        TestOp::Cmp => data_code(13, true, number(a.n()), 15, a.x()),
+    match a.op {
+        TestOp::Tst => data_code(0, true, number(a.n), 15, a.x),
+        TestOp::Teq => data_code(4, true, number(a.n), 15, a.x),
+        TestOp::Cmn => data_code(8, true, number(a.n), 15, a.x),
+        TestOp::Cmp => data_code(13, true, number(a.n), 15, a.x),
     }
 }
 
@@ -156,31 +150,31 @@ fn shift_code(a: &ShiftBy) -> u32
     ensures { result ≡ full_number_of (2 ^ 3 * 500 + 2 * shift_number_of a.now.kind + bit_of a.now.s) a.now.n 15 a.now.d a.now.m }
 {
     full_number(
-        8 * 500 + 2 * shift_number(a.kind()) + bit(a.s()),
-        number(a.n()),
+        8 * 500 + 2 * shift_number(a.kind) + bit(a.s),
+        number(a.n),
         15,
-        number(a.d()),
-        number(a.m()),
+        number(a.d),
+        number(a.m),
     )
 }
 
 fn wide_code(a: &Wide) -> u32
     ensures { result ≡ split_number_of (wide_number a.now.op) a.now.n a.now.d a.now.imm }
 {
-    match a.op() {
-        WideOp::Add => split_number(32, number(a.n()), number(a.d()), a.imm() as u32),
-        WideOp::Sub => split_number(42, number(a.n()), number(a.d()), a.imm() as u32),
+    match a.op {
+        WideOp::Add => split_number(32, number(a.n), number(a.d), a.imm as u32),
+        WideOp::Sub => split_number(42, number(a.n), number(a.d), a.imm as u32),
     }
 }
 
 fn half_code(a: &Half) -> u32
     ensures { result ≡ split_number_of (half_number a.now.top) (a.now.imm / 2 ^ 12) a.now.d (a.now.imm % 2 ^ 12) }
 {
-    let imm = a.imm() as u32;
-    if a.top() {
-        split_number(44, imm / 4096, number(a.d()), imm % 4096)
+    let imm = a.imm as u32;
+    if a.top {
+        split_number(44, imm / 4096, number(a.d), imm % 4096)
     } else {
-        split_number(36, imm / 4096, number(a.d()), imm % 4096)
+        split_number(36, imm / 4096, number(a.d), imm % 4096)
     }
 }
 
@@ -215,8 +209,8 @@ fn extension_code(o: u32, a: &Unary) -> u32
         o,
         15,
         15,
-        number(a.d()),
-        128 + 16 * (a.turn() as u32 / 8 % 4) + number(a.m()),
+        number(a.d),
+        128 + 16 * (a.turn as u32 / 8 % 4) + number(a.m),
     )
 }
 
@@ -226,19 +220,13 @@ fn order_code(o: u32, kind: u32, a: &Unary) -> u32
     requires kind { kind < 16 }
     ensures { result ≡ full_number_of o a.now.m 15 a.now.d (2 ^ 4 * kind + a.now.m) }
 {
-    full_number(
-        o,
-        number(a.m()),
-        15,
-        number(a.d()),
-        16 * kind + number(a.m()),
-    )
+    full_number(o, number(a.m), 15, number(a.d), 16 * kind + number(a.m))
 }
 
 fn unary_code(a: &Unary) -> u32
     ensures { result ≡ unary_code_of a.now.op a.now }
 {
-    match a.op() {
+    match a.op {
         UnaryOp::Sxth => extension_code(0xFA0, a),
         UnaryOp::Uxth => extension_code(0xFA1, a),
         UnaryOp::Sxtb => extension_code(0xFA4, a),
@@ -256,45 +244,45 @@ fn mul_acc_code(a: &MulAcc) -> u32
 {
     full_number(
         0xFB0,
-        number(a.n()),
-        number(a.a()),
-        number(a.d()),
-        16 * bit(a.minus()) + number(a.m()),
+        number(a.n),
+        number(a.a),
+        number(a.d),
+        16 * bit(a.minus) + number(a.m),
     )
 }
 
 fn mul_code(a: &Mul) -> u32
     ensures { result ≡ full_number_of 0xFB0 a.now.n 15 a.now.d a.now.m }
 {
-    full_number(0xFB0, number(a.n()), 15, number(a.d()), number(a.m()))
+    full_number(0xFB0, number(a.n), 15, number(a.d), number(a.m))
 }
 
 fn long_mul_code(a: &LongMul) -> u32
     ensures { result ≡ full_number_of (long_mul_number_of a.now.op) a.now.n a.now.lo a.now.hi a.now.m }
 {
     full_number(
-        long_mul_number(a.op()),
-        number(a.n()),
-        number(a.lo()),
-        number(a.hi()),
-        number(a.m()),
+        long_mul_number(a.op),
+        number(a.n),
+        number(a.lo),
+        number(a.hi),
+        number(a.m),
     )
 }
 
 fn div_code(a: &Div) -> u32
     ensures { result ≡ full_number_of (div_number a.now.signed) a.now.n 15 a.now.d (2 ^ 4 * 15 + a.now.m) }
 {
-    let o = if a.signed() { 0xFB9 } else { 0xFBB };
-    full_number(o, number(a.n()), 15, number(a.d()), 16 * 15 + number(a.m()))
+    let o = if a.signed { 0xFB9 } else { 0xFBB };
+    full_number(o, number(a.n), 15, number(a.d), 16 * 15 + number(a.m))
 }
 
 fn adr_code(a: &Adr) -> u32
     ensures { result ≡ split_number_of (adr_number a.now.up) 15 a.now.d a.now.imm }
 {
-    if a.up() {
-        split_number(32, 15, number(a.d()), a.imm() as u32)
+    if a.up {
+        split_number(32, 15, number(a.d), a.imm as u32)
     } else {
-        split_number(42, 15, number(a.d()), a.imm() as u32)
+        split_number(42, 15, number(a.d), a.imm as u32)
     }
 }
 
@@ -302,12 +290,11 @@ fn adr_code(a: &Adr) -> u32
 fn field_code(a: &Field) -> u32
     ensures { result ≡ field_code_of a.now.op a.now }
 {
-    a.valid();
-    let n = source_number(a.n());
-    let d = number(a.d());
-    let lsb = a.lsb() as u32;
-    let width = a.width() as u32;
-    match a.op() {
+    let n = source_number(a.n);
+    let d = number(a.d);
+    let lsb = a.lsb as u32;
+    let width = a.width as u32;
+    match a.op {
         FieldOp::Sbfx => shifted_number(0xF34, n, d, lsb, width - 1),
         FieldOp::Ubfx => shifted_number(0xF3C, n, d, lsb, width - 1),
         FieldOp::Bfi => shifted_number(0xF36, n, d, lsb, lsb + width - 1),
@@ -392,12 +379,12 @@ fn index_code(k: u32, n: Reg, t: Reg, m: Reg, shift: u8) -> u32
 fn access_code(a: &Access) -> u32
     ensures { result ≡ place_code_of (access_number_of a.now.op) a.now.n a.now.t a.now.place }
 {
-    let k = access_number(a.op());
-    match a.place() {
-        Place::Offset { up, imm } => offset_code(k, a.n(), a.t(), up, imm),
-        Place::Pre { up, imm } => byte_number(k, a.n(), a.t(), 1, up, 1, imm),
-        Place::Post { up, imm } => byte_number(k, a.n(), a.t(), 0, up, 1, imm),
-        Place::Index { m, shift } => index_code(k, a.n(), a.t(), m, shift),
+    let k = access_number(a.op);
+    match a.place {
+        Place::Offset { up, imm } => offset_code(k, a.n, a.t, up, imm),
+        Place::Pre { up, imm } => byte_number(k, a.n, a.t, 1, up, 1, imm),
+        Place::Post { up, imm } => byte_number(k, a.n, a.t, 0, up, 1, imm),
+        Place::Index { m, shift } => index_code(k, a.n, a.t, m, shift),
     }
 }
 
@@ -428,15 +415,15 @@ fn pair_code(a: &Pair) -> u32
 {
     full_number(
         32 * 116
-            + 16 * is_before(a.index())
-            + 8 * bit(a.up())
+            + 16 * is_before(a.index)
+            + 8 * bit(a.up)
             + 4
-            + 2 * is_changed(a.index())
-            + bit(a.load()),
-        number(a.n()),
-        number(a.t()),
-        number(a.u()),
-        a.imm() as u32 / 4 % 256,
+            + 2 * is_changed(a.index)
+            + bit(a.load),
+        number(a.n),
+        number(a.t),
+        number(a.u),
+        a.imm as u32 / 4 % 256,
     )
 }
 
@@ -445,24 +432,24 @@ fn multi_row(a: &Multi) -> u32
     ensures value { result ≡ 2 ^ 2 * (if a.now.down then 932 else 930) + 2 * bit_of a.now.back + bit_of a.now.load }
     ensures range { result < 4096 }
 {
-    if a.down() {
-        4 * 932 + 2 * bit(a.back()) + bit(a.load())
+    if a.down {
+        4 * 932 + 2 * bit(a.back) + bit(a.load)
     } else {
-        4 * 930 + 2 * bit(a.back()) + bit(a.load())
+        4 * 930 + 2 * bit(a.back) + bit(a.load)
     }
 }
 
 fn multi_code(a: &Multi) -> u32
     ensures { result ≡ multi_code_of a.now }
 {
-    let list = a.list().bits();
+    let list = a.list.bits();
     if list == 0 {
         0xF85D_FB04
     } else {
         full_number(
             multi_row(a),
-            number(a.n()),
-            8 * bit(a.pc()) + 4 * (list / 16384 % 2) + list / 4096 % 2,
+            number(a.n),
+            8 * bit(a.pc) + 4 * (list / 16384 % 2) + list / 4096 % 2,
             list / 256 % 16,
             list % 256,
         )
@@ -472,12 +459,11 @@ fn multi_code(a: &Multi) -> u32
 fn literal_code(a: &Literal) -> u32
     ensures { result ≡ full_number_of (2 ^ 4 * 0xF8 + 2 ^ 3 * bit_of a.now.up + 5) 15 a.now.t (a.now.imm / 2 ^ 8) (a.now.imm % 2 ^ 8) }
 {
-    a.valid();
-    let imm = a.imm() as u32;
+    let imm = a.imm as u32;
     full_number(
-        16 * 0xF8 + 8 * bit(a.up()) + 5,
+        16 * 0xF8 + 8 * bit(a.up) + 5,
         15,
-        number(a.t()),
+        number(a.t),
         imm / 256,
         imm % 256,
     )
@@ -521,22 +507,22 @@ fn far_branch(o: u32, offset: u32) -> u32
 fn branch_code(a: &Branch) -> u32
     ensures { result ≡ branch_code_of (condition_number_of a.now.cond) a.now.offset }
 {
-    let condition = condition_number(a.cond()) as u32;
+    let condition = condition_number(a.cond) as u32;
     if condition == 14 {
-        far_branch(2, word_of(a.offset()))
+        far_branch(2, word_of(a.offset))
     } else {
-        near_branch(condition, word_of(a.offset()))
+        near_branch(condition, word_of(a.offset))
     }
 }
 
 fn nothing_code(a: &Nothing) -> u32
     ensures { result ≡ nothing_code_of a.now.op a.now.option }
 {
-    match a.op() {
+    match a.op {
         NothingOp::Nop => 0xF3AF_8000,
-        NothingOp::Dsb => 0xF3BF_8F40 + a.option() as u32,
-        NothingOp::Dmb => 0xF3BF_8F50 + a.option() as u32,
-        NothingOp::Isb => 0xF3BF_8F60 + a.option() as u32,
+        NothingOp::Dsb => 0xF3BF_8F40 + a.option as u32,
+        NothingOp::Dmb => 0xF3BF_8F50 + a.option as u32,
+        NothingOp::Isb => 0xF3BF_8F60 + a.option as u32,
     }
 }
 
@@ -564,7 +550,7 @@ pub(crate) fn full_candidate(i: &Instr) -> Option<u32>
         Instr::Literal(a) => Some(literal_code(a)),
         Instr::Adr(a) => Some(adr_code(a)),
         Instr::Branch(a) => Some(branch_code(a)),
-        Instr::Call(a) => Some(far_branch(3, word_of(a.offset()))),
+        Instr::Call(a) => Some(far_branch(3, word_of(a.offset))),
         Instr::Nothing(a) => Some(nothing_code(a)),
         _ => None,
     }

@@ -114,21 +114,21 @@ pub(crate) fn condition_number(c: Cond) -> u16
 fn sum_code(a: &Alu) -> Option<u16>
     ensures { result ≡ sum_code_of a.now a.now.x }
 {
-    match a.x() {
+    match a.x {
         Operand::Imm(imm) => {
-            if a.s() {
-                Some(three_registers(14, imm, a.n(), a.d()))
-            } else if a.d().number() == 13 {
+            if a.s {
+                Some(three_registers(14, imm, a.n, a.d))
+            } else if a.d.number() == 13 {
                 Some(128 * 352 + quarter(imm) % 128)
             } else {
-                Some(eight_bits(21, a.d(), quarter(imm)))
+                Some(eight_bits(21, a.d, quarter(imm)))
             }
         }
         Operand::Reg { m, .. } => {
-            if a.s() {
-                Some(three_registers(12, number(m), a.n(), a.d()))
+            if a.s {
+                Some(three_registers(12, number(m), a.n, a.d))
             } else {
-                Some(high_registers(68, m, a.d()))
+                Some(high_registers(68, m, a.d))
             }
         }
     }
@@ -137,15 +137,15 @@ fn sum_code(a: &Alu) -> Option<u16>
 fn difference_code(a: &Alu) -> Option<u16>
     ensures { result ≡ difference_code_of a.now a.now.x }
 {
-    match a.x() {
+    match a.x {
         Operand::Imm(imm) => {
-            if a.s() {
-                Some(three_registers(15, imm, a.n(), a.d()))
+            if a.s {
+                Some(three_registers(15, imm, a.n, a.d))
             } else {
                 Some(128 * 353 + quarter(imm) % 128)
             }
         }
-        Operand::Reg { m, .. } => Some(three_registers(13, number(m), a.n(), a.d())),
+        Operand::Reg { m, .. } => Some(three_registers(13, number(m), a.n, a.d)),
     }
 }
 
@@ -163,17 +163,17 @@ fn by_code(o: u16, d: Reg, x: Operand) -> Option<u16>
 fn alu_code(a: &Alu) -> Option<u16>
     ensures { result ≡ alu_code_of a.now.op a.now }
 {
-    match a.op() {
-        AluOp::And => by_code(0, a.d(), a.x()),
-        AluOp::Bic => by_code(14, a.d(), a.x()),
-        AluOp::Orr => by_code(12, a.d(), a.x()),
+    match a.op {
+        AluOp::And => by_code(0, a.d, a.x),
+        AluOp::Bic => by_code(14, a.d, a.x),
+        AluOp::Orr => by_code(12, a.d, a.x),
         AluOp::Orn => None,
-        AluOp::Eor => by_code(1, a.d(), a.x()),
+        AluOp::Eor => by_code(1, a.d, a.x),
         AluOp::Add => sum_code(a),
-        AluOp::Adc => by_code(5, a.d(), a.x()),
-        AluOp::Sbc => by_code(6, a.d(), a.x()),
+        AluOp::Adc => by_code(5, a.d, a.x),
+        AluOp::Sbc => by_code(6, a.d, a.x),
         AluOp::Sub => difference_code(a),
-        AluOp::Rsb => Some(two_registers(265, a.n(), a.d())),
+        AluOp::Rsb => Some(two_registers(265, a.n, a.d)),
     }
 }
 
@@ -193,13 +193,13 @@ fn shift_number(kind: Shift) -> u16
 fn mov_code(a: &Move) -> Option<u16>
     ensures { result ≡ mov_code_of a.now a.now.x }
 {
-    match a.x() {
-        Operand::Imm(imm) => Some(eight_bits(4, a.d(), imm)),
+    match a.x {
+        Operand::Imm(imm) => Some(eight_bits(4, a.d, imm)),
         Operand::Reg { m, kind, amount } => {
-            if a.s() {
-                Some(five_bits(shift_number(kind), amount as u16, m, a.d()))
+            if a.s {
+                Some(five_bits(shift_number(kind), amount as u16, m, a.d))
             } else {
-                Some(high_registers(70, m, a.d()))
+                Some(high_registers(70, m, a.d))
             }
         }
     }
@@ -208,9 +208,9 @@ fn mov_code(a: &Move) -> Option<u16>
 fn move_code(a: &Move) -> Option<u16>
     ensures { result ≡ move_code_of a.now.op a.now }
 {
-    match a.op() {
+    match a.op {
         MoveOp::Mov => mov_code(a),
-        MoveOp::Mvn => by_code(15, a.d(), a.x()),
+        MoveOp::Mvn => by_code(15, a.d, a.x),
     }
 }
 
@@ -232,22 +232,22 @@ fn compare_code(n: Reg, x: Operand) -> Option<u16>
 fn test_code(a: &Test) -> Option<u16>
     ensures { result ≡ test_code_of a.now.op a.now }
 {
-    match a.op() {
-        TestOp::Tst => by_code(8, a.n(), a.x()),
+    match a.op {
+        TestOp::Tst => by_code(8, a.n, a.x),
         TestOp::Teq => None,
-        TestOp::Cmn => by_code(11, a.n(), a.x()),
-        TestOp::Cmp => compare_code(a.n(), a.x()),
+        TestOp::Cmn => by_code(11, a.n, a.x),
+        TestOp::Cmp => compare_code(a.n, a.x),
     }
 }
 
 fn shift_code(a: &ShiftBy) -> Option<u16>
     ensures { result ≡ shift_code_of a.now.kind a.now.d a.now.m }
 {
-    match a.kind() {
-        Shift::Lsl => Some(two_registers(258, a.m(), a.d())),
-        Shift::Lsr => Some(two_registers(259, a.m(), a.d())),
-        Shift::Asr => Some(two_registers(260, a.m(), a.d())),
-        Shift::Ror => Some(two_registers(263, a.m(), a.d())),
+    match a.kind {
+        Shift::Lsl => Some(two_registers(258, a.m, a.d)),
+        Shift::Lsr => Some(two_registers(259, a.m, a.d)),
+        Shift::Asr => Some(two_registers(260, a.m, a.d)),
+        Shift::Ror => Some(two_registers(263, a.m, a.d)),
         Shift::Rrx => None,
     }
 }
@@ -255,14 +255,14 @@ fn shift_code(a: &ShiftBy) -> Option<u16>
 fn unary_code(a: &Unary) -> Option<u16>
     ensures { result ≡ unary_code_of a.now.op a.now.d a.now.m }
 {
-    match a.op() {
-        UnaryOp::Sxth => Some(two_registers(712, a.m(), a.d())),
-        UnaryOp::Sxtb => Some(two_registers(713, a.m(), a.d())),
-        UnaryOp::Uxth => Some(two_registers(714, a.m(), a.d())),
-        UnaryOp::Uxtb => Some(two_registers(715, a.m(), a.d())),
-        UnaryOp::Rev => Some(two_registers(744, a.m(), a.d())),
-        UnaryOp::Rev16 => Some(two_registers(745, a.m(), a.d())),
-        UnaryOp::Revsh => Some(two_registers(747, a.m(), a.d())),
+    match a.op {
+        UnaryOp::Sxth => Some(two_registers(712, a.m, a.d)),
+        UnaryOp::Sxtb => Some(two_registers(713, a.m, a.d)),
+        UnaryOp::Uxth => Some(two_registers(714, a.m, a.d)),
+        UnaryOp::Uxtb => Some(two_registers(715, a.m, a.d)),
+        UnaryOp::Rev => Some(two_registers(744, a.m, a.d)),
+        UnaryOp::Rev16 => Some(two_registers(745, a.m, a.d)),
+        UnaryOp::Revsh => Some(two_registers(747, a.m, a.d)),
         UnaryOp::Rbit => None,
         UnaryOp::Clz => None,
     }
@@ -314,15 +314,15 @@ fn offset_code(op: AccessOp, t: Reg, n: Reg, imm: u16) -> Option<u16>
 fn access_code(a: &Access) -> Option<u16>
     ensures { result ≡ place_code_of a.now.op a.now.t a.now.n a.now.place }
 {
-    match a.place() {
-        Place::Offset { imm, .. } => offset_code(a.op(), a.t(), a.n(), imm),
+    match a.place {
+        Place::Offset { imm, .. } => offset_code(a.op, a.t, a.n, imm),
         Place::Pre { .. } => None,
         Place::Post { .. } => None,
         Place::Index { m, .. } => Some(three_registers(
-            40 + index_number(a.op()),
+            40 + index_number(a.op),
             number(m),
-            a.n(),
-            a.t(),
+            a.n,
+            a.t,
         )),
     }
 }
@@ -339,38 +339,38 @@ fn low_byte(a: &Multi) -> u16
     ensures value { result ≡ a.now.list.0 % 256 }
     ensures range { result < 256 }
 {
-    (a.list().bits() % 256) as u16
+    (a.list.bits() % 256) as u16
 }
 
 fn lr_bit(a: &Multi) -> u16
     ensures value { result ≡ a.now.list.0 / 2 ^ 14 % 2 }
     ensures range { result < 2 }
 {
-    (a.list().bits() / 16384 % 2) as u16
+    (a.list.bits() / 16384 % 2) as u16
 }
 
 /// PUSH and STM; POP and LDM.
 fn many_code(a: &Multi) -> u16
     ensures { result ≡ many_code_of a.now.load a.now.n a.now.list.0 a.now.pc }
 {
-    if a.load() {
-        if a.n().number() == 13 {
-            512 * 94 + 256 * bit(a.pc()) + low_byte(a)
+    if a.load {
+        if a.n.number() == 13 {
+            512 * 94 + 256 * bit(a.pc) + low_byte(a)
         } else {
-            eight_bits(25, a.n(), low_byte(a))
+            eight_bits(25, a.n, low_byte(a))
         }
-    } else if a.n().number() == 13 {
+    } else if a.n.number() == 13 {
         512 * 90 + 256 * lr_bit(a) + low_byte(a)
     } else {
-        eight_bits(24, a.n(), low_byte(a))
+        eight_bits(24, a.n, low_byte(a))
     }
 }
 
 fn branch_code(a: &Branch) -> u16
     ensures { result ≡ branch_code_of (condition_number_of a.now.cond) a.now.offset }
 {
-    let condition = condition_number(a.cond());
-    let word = word_of(a.offset());
+    let condition = condition_number(a.cond);
+    let word = word_of(a.offset);
     if condition == 14 {
         2048 * 28 + (word / 2 % 2048) as u16
     } else {
@@ -381,25 +381,25 @@ fn branch_code(a: &Branch) -> u16
 fn zero_branch_code(a: &ZeroBranch) -> u16
     ensures { result ≡ zero_branch_code_of a.now.nonzero a.now.n a.now.offset }
 {
-    let word = word_of(a.offset());
+    let word = word_of(a.offset);
     4096 * 11
-        + 2048 * bit(a.nonzero())
+        + 2048 * bit(a.nonzero)
         + 512 * (word / 64 % 2) as u16
         + 256
         + 8 * (word / 2 % 32) as u16
-        + number(a.n()) % 8
+        + number(a.n) % 8
 }
 
 fn it_code(a: &It) -> u16
     ensures { result ≡ 48896 + 16 * condition_number_of a.now.first + a.now.mask % 16 }
 {
-    0xBF00 + 16 * condition_number(a.first()) + a.mask() as u16 % 16
+    0xBF00 + 16 * condition_number(a.first) + a.mask as u16 % 16
 }
 
 fn nothing_code(a: &Nothing) -> Option<u16>
     ensures { result ≡ nothing_code_of a.now.op }
 {
-    match a.op() {
+    match a.op {
         NothingOp::Nop => Some(0xBF00),
         _ => None,
     }
@@ -416,17 +416,17 @@ pub(crate) fn half_candidate(i: &Instr) -> Option<u16>
         Instr::Test(a) => test_code(a),
         Instr::ShiftBy(a) => shift_code(a),
         Instr::Unary(a) => unary_code(a),
-        Instr::Mul(a) => Some(two_registers(269, a.n(), a.d())),
+        Instr::Mul(a) => Some(two_registers(269, a.n, a.d)),
         Instr::Access(a) => access_code(a),
         Instr::Multi(a) => Some(many_code(a)),
-        Instr::Literal(a) => Some(eight_bits(9, a.t(), a.imm() / 4)),
+        Instr::Literal(a) => Some(eight_bits(9, a.t, a.imm / 4)),
         Instr::Branch(a) => Some(branch_code(a)),
         Instr::ZeroBranch(a) => Some(zero_branch_code(a)),
-        Instr::Jump(a) => Some(128 * 142 + 8 * (number(a.m()) % 16)),
-        Instr::CallReg(a) => Some(128 * 143 + 8 * (number(a.m()) % 16)),
+        Instr::Jump(a) => Some(128 * 142 + 8 * (number(a.m) % 16)),
+        Instr::CallReg(a) => Some(128 * 143 + 8 * (number(a.m) % 16)),
         Instr::It(a) => Some(it_code(a)),
         Instr::Nothing(a) => nothing_code(a),
-        Instr::Trap(a) => Some(0xDE00 + a.imm() % 256),
+        Instr::Trap(a) => Some(0xDE00 + a.imm % 256),
         _ => None,
     }
 }
@@ -436,10 +436,10 @@ fn constant_code(o: u16, a: &Alu) -> Option<u16>
     requires { o < 32 }
     ensures { result ≡ constant_code_of o a.now.s a.now.d a.now.x }
 {
-    match a.x() {
+    match a.x {
         Operand::Imm(imm) => {
-            if a.s() {
-                Some(eight_bits(o, a.d(), imm))
+            if a.s {
+                Some(eight_bits(o, a.d, imm))
             } else {
                 None
             }
@@ -454,7 +454,7 @@ pub(crate) fn later_half(i: &Instr) -> Option<u16>
     ensures { result ≡ later_code i.now }
 {
     match i {
-        Instr::Alu(a) => match a.op() {
+        Instr::Alu(a) => match a.op {
             AluOp::Add => constant_code(6, a),
             AluOp::Sub => constant_code(7, a),
             _ => None,

@@ -18,9 +18,8 @@ use thumb_instr::{Access, AccessOp, Place};
 pub(crate) fn address_of(i: &Access, s: &Core) -> u32
     ensures { result ≡ address_of_place i.now.n i.now.place (alone s.now) }
 {
-    i.valid();
-    let n = s.word(i.n()).bits();
-    match i.place() {
+    let n = s.word(i.n).bits();
+    match i.place {
         Place::Offset { up, imm } => moved(up, u64::from(n), u32::from(imm)),
         Place::Pre { up, imm } => moved(up, u64::from(n), u32::from(imm)),
         Place::Post { .. } => n,
@@ -35,8 +34,8 @@ pub(crate) fn address_of(i: &Access, s: &Core) -> u32
 fn base_of(i: &Access, s: &Core) -> Option<u32>
     ensures { base_list i.now.n result ≡ base_write i.now.n i.now.place (alone s.now) }
 {
-    let n = u64::from(s.word(i.n()).bits());
-    match i.place() {
+    let n = u64::from(s.word(i.n).bits());
+    match i.place {
         Place::Offset { .. } => None,
         Place::Pre { up, imm } => Some(moved(up, n, u32::from(imm))),
         Place::Post { up, imm } => Some(moved(up, n, u32::from(imm))),
@@ -126,17 +125,17 @@ pub(crate) fn apply_access(
     ensures done { OnOk result ((code : CodeBytes) → Turns code (instr.Access i.now) next s.old m.old s.new m.new) }
     ensures fault { IfErr result (λ kind. ((code : CodeBytes) → Fails code (instr.Access i.now) next s.old m.old kind) × (s.new ≡ s.old) × (m.new ≡ m.old)) }
 {
-    let op = i.op();
+    let op = i.op;
     let address = address_of(i, s);
     if !m.holds(address, size_of(op)) {
         return Err(FaultKind::BadAddress);
     }
     let base = base_of(i, s);
     if is_load(op) {
-        return put_load(i.n(), base, i.t(), load(op, address, m), next, s);
+        return put_load(i.n, base, i.t, load(op, address, m), next, s);
     }
-    let w = s.word(i.t());
-    match put_base(i.n(), base, next, s) {
+    let w = s.word(i.t);
+    match put_base(i.n, base, next, s) {
         Ok(()) => {
             store(op, address, w, m);
             Ok(())

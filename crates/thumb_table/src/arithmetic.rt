@@ -19,10 +19,9 @@ pub(crate) fn apply_alu(i: &Alu, next: u32, s: &mut Core) -> Result<(), FaultKin
     ensures done { OnOk result (Makes (instr.Alu i.now) next s.old s.new) }
     ensures fault { IfErr result (λ kind. Stops (instr.Alu i.now) next s.old kind × (s.new ≡ s.old)) }
 {
-    i.valid();
-    let x = operand_value(i.x(), s);
-    let r = alu_result(i.op(), s.word(i.n()).bits(), x, s.c);
-    write_flagged(i.s(), &r, i.d(), Word::plain(r.value()), next, s)
+    let x = operand_value(i.x, s);
+    let r = alu_result(i.op, s.word(i.n).bits(), x, s.c);
+    write_flagged(i.s, &r, i.d, Word::plain(r.value()), next, s)
 }
 
 /// MOV and MVN.
@@ -30,11 +29,10 @@ pub(crate) fn apply_move(i: &Move, next: u32, s: &mut Core) -> Result<(), FaultK
     ensures done { OnOk result (Makes (instr.Move i.now) next s.old s.new) }
     ensures fault { IfErr result (λ kind. Stops (instr.Move i.now) next s.old kind × (s.new ≡ s.old)) }
 {
-    i.valid();
-    let x = operand_value(i.x(), s);
-    let word = moved_word(i.op(), i.x(), s);
+    let x = operand_value(i.x, s);
+    let word = moved_word(i.op, i.x, s);
     let r = Computed::logical(word.bits(), x.carry);
-    write_flagged(i.s(), &r, i.d(), word, next, s)
+    write_flagged(i.s, &r, i.d, word, next, s)
 }
 
 /// TST, TEQ, CMN and CMP.
@@ -42,9 +40,8 @@ pub(crate) fn apply_test(i: &Test, next: u32, s: &mut Core) -> Result<(), FaultK
     ensures done { OnOk result (Makes (instr.Test i.now) next s.old s.new) }
     ensures fault { IfErr result (λ kind. Stops (instr.Test i.now) next s.old kind × (s.new ≡ s.old)) }
 {
-    i.valid();
-    let x = operand_value(i.x(), s);
-    let r = alu_result(tested(i.op()), s.word(i.n()).bits(), x, s.c);
+    let x = operand_value(i.x, s);
+    let r = alu_result(tested(i.op), s.word(i.n).bits(), x, s.c);
     set_flags(true, &r, s);
     fall(next, s);
     Ok(())
@@ -55,10 +52,10 @@ pub(crate) fn apply_shift_by(i: &ShiftBy, next: u32, s: &mut Core) -> Result<(),
     ensures done { OnOk result (Makes (instr.ShiftBy i.now) next s.old s.new) }
     ensures fault { IfErr result (λ kind. Stops (instr.ShiftBy i.now) next s.old kind × (s.new ≡ s.old)) }
 {
-    let amount = (s.word(i.m()).bits() % 256) as u8;
-    let shifted = shift_c(s.word(i.n()).bits(), i.kind(), amount, s.c);
+    let amount = (s.word(i.m).bits() % 256) as u8;
+    let shifted = shift_c(s.word(i.n).bits(), i.kind, amount, s.c);
     let r = Computed::logical(shifted.value, shifted.carry);
-    write_flagged(i.s(), &r, i.d(), Word::plain(shifted.value), next, s)
+    write_flagged(i.s, &r, i.d, Word::plain(shifted.value), next, s)
 }
 
 /// A register's value and a constant, added or taken away.
@@ -76,7 +73,7 @@ pub(crate) fn apply_wide(i: &Wide, next: u32, s: &mut Core) -> Result<(), FaultK
     ensures done { OnOk result (Makes (instr.Wide i.now) next s.old s.new) }
     ensures fault { IfErr result (λ kind. Stops (instr.Wide i.now) next s.old kind × (s.new ≡ s.old)) }
 {
-    let n = s.word(i.n()).bits();
-    let sum = wide_value(i.op(), n, i.imm());
-    write_word(i.d(), Word::plain(sum), next, s)
+    let n = s.word(i.n).bits();
+    let sum = wide_value(i.op, n, i.imm);
+    write_word(i.d, Word::plain(sum), next, s)
 }

@@ -1,6 +1,6 @@
 //! Fields of bits, extensions, and orders of bytes and bits.
 
-ghost use Rattle.std.specs.Prelude.{◌≡◌, ◌≤◌, ◌+◌, Option, OnOk, IfErr};
+ghost use Rattle.std.specs.Prelude.{◌≡◌, OnOk, IfErr, Option};
 ghost use Rattle.thumb_instr.specs.declared.instructions.Instr.TheVariants as instr;
 ghost use Rattle.thumb_table.specs.Effects.{field_value, source};
 ghost use Rattle.thumb_table.specs.Views.{alone, Makes, Stops};
@@ -21,24 +21,15 @@ fn source(n: Option<Reg>, s: &Core) -> u32
     }
 }
 
-/// A field of bits lies in a word.
-fn lies(i: &Field)
-    ensures some { 1 ≤ i.now.width }
-    ensures within { i.now.lsb + i.now.width ≤ 32 }
-{
-    i.valid();
-}
-
 /// What SBFX, UBFX, BFI and BFC write.
 fn field_value(i: &Field, s: &Core) -> u32
     ensures { result ≡ field_value i.now.op i.now.d i.now.n i.now.lsb i.now.width (alone s.now) }
 {
-    lies(i);
-    let n = source(i.n(), s);
-    let old = s.word(i.d()).bits();
-    let lsb = i.lsb();
-    let width = i.width();
-    match i.op() {
+    let n = source(i.n, s);
+    let old = s.word(i.d).bits();
+    let lsb = i.lsb;
+    let width = i.width;
+    match i.op {
         FieldOp::Sbfx => extended(width, field_of(lsb, width, n)),
         FieldOp::Ubfx => field_of(lsb, width, n),
         FieldOp::Bfi => with_field(lsb, width, lowest(width, n), old),
@@ -52,7 +43,7 @@ pub(crate) fn apply_field(i: &Field, next: u32, s: &mut Core) -> Result<(), Faul
     ensures fault { IfErr result (λ kind. Stops (instr.Field i.now) next s.old kind × (s.new ≡ s.old)) }
 {
     let value = field_value(i, s);
-    write_word(i.d(), Word::plain(value), next, s)
+    write_word(i.d, Word::plain(value), next, s)
 }
 
 /// SXTH, SXTB, UXTH, UXTB, REV, REV16, REVSH, RBIT and CLZ.
@@ -60,7 +51,7 @@ pub(crate) fn apply_unary(i: &Unary, next: u32, s: &mut Core) -> Result<(), Faul
     ensures done { OnOk result (Makes (instr.Unary i.now) next s.old s.new) }
     ensures fault { IfErr result (λ kind. Stops (instr.Unary i.now) next s.old kind × (s.new ≡ s.old)) }
 {
-    let turned = rotated(s.word(i.m()).bits(), i.turn());
-    let value = unary(i.op(), turned);
-    write_word(i.d(), Word::plain(value), next, s)
+    let turned = rotated(s.word(i.m).bits(), i.turn);
+    let value = unary(i.op, turned);
+    write_word(i.d, Word::plain(value), next, s)
 }

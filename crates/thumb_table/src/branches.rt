@@ -24,7 +24,7 @@ fn chosen(taken: bool, target: u32, next: u32) -> u32
 fn branch_target(i: &Branch, pc: u32) -> u32
     ensures { result ≡ away (pc + 4) i.now.offset }
 {
-    away(u64::from(pc) + 4, i.offset())
+    away(u64::from(pc) + 4, i.offset)
 }
 
 /// B, with a condition.
@@ -32,23 +32,23 @@ pub(crate) fn apply_branch(i: &Branch, next: u32, s: &mut Core)
     ensures { Goes (instr.Branch i.now) next s.old s.new }
 {
     let target = branch_target(i, s.pc);
-    let taken = holds(i.cond(), s);
+    let taken = holds(i.cond, s);
     fall(chosen(taken, target, next), s);
 }
 
 fn zero_branch_target(i: &ZeroBranch, pc: u32) -> u32
     ensures { result ≡ away (pc + 4) i.now.offset }
 {
-    away(u64::from(pc) + 4, i.offset())
+    away(u64::from(pc) + 4, i.offset)
 }
 
 fn is_taken(i: &ZeroBranch, s: &Core) -> bool
     ensures { result ≡ (if i.now.nonzero then not (value (alone s.now) i.now.n == 0) else value (alone s.now) i.now.n == 0) }
 {
-    if i.nonzero() {
-        s.word(i.n()).bits() != 0
+    if i.nonzero {
+        s.word(i.n).bits() != 0
     } else {
-        s.word(i.n()).bits() == 0
+        s.word(i.n).bits() == 0
     }
 }
 
@@ -71,7 +71,7 @@ fn return_word(next: u32) -> Word
 fn call_target(i: &Call, pc: u32) -> u32
     ensures { result ≡ away (pc + 4) i.now.offset }
 {
-    away(u64::from(pc) + 4, i.offset())
+    away(u64::from(pc) + 4, i.offset)
 }
 
 /// BL.
@@ -89,7 +89,7 @@ pub(crate) fn apply_jump(i: &Jump, next: u32, s: &mut Core) -> Result<(), FaultK
     ensures fault { IfErr result (λ kind. Faults (instr.Jump i.now) next s.old kind × (s.new ≡ s.old)) }
 {
     let _ = next;
-    let bits = s.word(i.m()).bits();
+    let bits = s.word(i.m).bits();
     if bits % 2 != 1 {
         return Err(FaultKind::BadJump);
     }
@@ -102,7 +102,7 @@ pub(crate) fn apply_call_reg(i: &CallReg, next: u32, s: &mut Core) -> Result<(),
     ensures done { OnOk result (Goes (instr.CallReg i.now) next s.old s.new) }
     ensures fault { IfErr result (λ kind. Faults (instr.CallReg i.now) next s.old kind × (s.new ≡ s.old)) }
 {
-    let bits = s.word(i.m()).bits();
+    let bits = s.word(i.m).bits();
     if bits % 2 != 1 {
         return Err(FaultKind::BadJump);
     }
@@ -115,9 +115,8 @@ pub(crate) fn apply_call_reg(i: &CallReg, next: u32, s: &mut Core) -> Result<(),
 pub(crate) fn apply_it(i: &It, next: u32, s: &mut Core)
     ensures { Goes (instr.It i.now) next s.old s.new }
 {
-    i.valid();
     s.pc = next;
-    s.it = it_state(i.first(), i.mask());
+    s.it = it_state(i.first, i.mask);
 }
 
 /// NOP and the barriers.

@@ -23,7 +23,7 @@ use thumb_instr::{Adr, Half, Literal};
 fn near(i: &Adr, pc: u32) -> Word
     ensures { result ≡ plain (moved_of i.now.up ((pc + 4) / 4 * 4) i.now.imm) }
 {
-    Word::plain(moved(i.up(), literal_base(pc), u32::from(i.imm())))
+    Word::plain(moved(i.up, literal_base(pc), u32::from(i.imm)))
 }
 
 /// ADR.
@@ -31,14 +31,14 @@ pub(crate) fn apply_adr(i: &Adr, next: u32, s: &mut Core) -> Result<(), FaultKin
     ensures done { OnOk result (Goes (instr.Adr i.now) next s.old s.new) }
     ensures fault { IfErr result (λ kind. Faults (instr.Adr i.now) next s.old kind × (s.new ≡ s.old)) }
 {
-    put(i.d(), near(i, s.pc), next, s)
+    put(i.d, near(i, s.pc), next, s)
 }
 
 /// The address of a literal.
 fn literal_address(i: &Literal, pc: u32) -> u32
     ensures { result ≡ moved_of i.now.up ((pc + 4) / 4 * 4) i.now.imm }
 {
-    moved(i.up(), literal_base(pc), u32::from(i.imm()))
+    moved(i.up, literal_base(pc), u32::from(i.imm))
 }
 
 /// The word of the code at an address, with the mark of its place.
@@ -67,7 +67,7 @@ pub(crate) fn apply_literal(
     if !code.holds(address, 4) {
         return Err(FaultKind::BadAddress);
     }
-    put(i.t(), literal(code, address), next, s)
+    put(i.t, literal(code, address), next, s)
 }
 
 /// The word of a MOVW or MOVT.
@@ -76,10 +76,10 @@ fn half_word(i: &Half, code: &CodeBytes, s: &Core) -> Word
     ensures { (width : ℕ) → result ≡ half_word_of i.now.top i.now.d i.now.imm (site_of code.now s.now width) (alone s.now) }
 {
     let place = mark_at(code.marks(), s.pc);
-    if i.top() {
-        completed(i.imm(), s.word(i.d()), place)
+    if i.top {
+        completed(i.imm, s.word(i.d), place)
     } else {
-        low_half(i.imm(), place)
+        low_half(i.imm, place)
     }
 }
 
@@ -94,5 +94,5 @@ pub(crate) fn apply_half(
     ensures done { OnOk result ((m : Memory) → Turns code.now (instr.Half i.now) next s.old m s.new m) }
     ensures fault { IfErr result (λ kind. ((m : Memory) → Fails code.now (instr.Half i.now) next s.old m kind) × (s.new ≡ s.old)) }
 {
-    put(i.d(), half_word(i, code, s), next, s)
+    put(i.d, half_word(i, code, s), next, s)
 }

@@ -42,7 +42,7 @@ pub(crate) fn bytes_of(i: &Multi) -> u32
     ensures value { result ≡ bytes_of_list i.now.list.0 i.now.pc }
     ensures range { result ≤ 64 }
 {
-    4 * (count(i.list()) + u32::from(i.pc()))
+    4 * (count(i.list) + u32::from(i.pc))
 }
 
 /// Loads words by rising register.
@@ -80,8 +80,8 @@ pub(crate) fn store_list(list: RegSet, address: u32, s: &Core, m: &mut Memory)
 pub(crate) fn lowest(i: &Multi, bytes: u32, s: &Core) -> u32
     ensures { result ≡ lowest_of i.now.down (value (alone s.now) i.now.n) bytes }
 {
-    let n = s.word(i.n()).bits();
-    if i.down() {
+    let n = s.word(i.n).bits();
+    if i.down {
         moved(false, u64::from(n), bytes)
     } else {
         n
@@ -92,8 +92,8 @@ pub(crate) fn lowest(i: &Multi, bytes: u32, s: &Core) -> u32
 fn base_of(i: &Multi, bytes: u32, s: &Core) -> Option<u32>
     ensures { base_list i.now.n result ≡ base_moved i.now.back i.now.down i.now.n (value (alone s.now) i.now.n) bytes }
 {
-    if i.back() {
-        Some(moved(!i.down(), u64::from(s.word(i.n()).bits()), bytes))
+    if i.back {
+        Some(moved(!i.down, u64::from(s.word(i.n).bits()), bytes))
     } else {
         None
     }
@@ -103,7 +103,7 @@ fn base_of(i: &Multi, bytes: u32, s: &Core) -> Option<u32>
 pub(crate) fn joined_behind(i: &Multi, address: u32, m: &Memory) -> Joined
     ensures { result ≡ word_at m.now (address + 4 * length (registers i.now.list.0)) }
 {
-    let behind = u64::from(address) + u64::from(4 * count(i.list()));
+    let behind = u64::from(address) + u64::from(4 * count(i.list));
     m.word_at(behind)
 }
 
@@ -131,13 +131,13 @@ fn move_list(i: &Multi, address: u32, bytes: u32, s: &mut Core, m: &mut Memory)
     ensures memory { m.new ≡ with_cells (list_change i.now address bytes (core_of s.old m.old)).cells m.old }
 {
     let base = base_of(i, bytes, s);
-    if i.load() {
-        set_base(i.n(), base, s);
-        load_list(i.list(), address, s, m);
+    if i.load {
+        set_base(i.n, base, s);
+        load_list(i.list, address, s, m);
         return;
     }
-    store_list(i.list(), address, s, m);
-    set_base(i.n(), base, s);
+    store_list(i.list, address, s, m);
+    set_base(i.n, base, s);
 }
 
 /// Transfers a list of words, and pc.
@@ -155,16 +155,15 @@ fn transfer(
     ensures done { OnOk result (Ends (list_outcome i.now address bytes (core_of s.old m.old)) next s.old m.old s.new m.new) }
     ensures fault { IfErr result (λ kind. (list_outcome i.now address bytes (core_of s.old m.old) ≡ Err kind) × (s.new ≡ s.old) × (m.new ≡ m.old)) }
 {
-    i.valid();
-    if is_base_askew(i.n(), base_of(i, bytes, s)) {
+    if is_base_askew(i.n, base_of(i, bytes, s)) {
         return Err(FaultKind::BadStack);
     }
     let bits = popped(i, address, m).bits();
-    if i.pc() && bits % 2 != 1 {
+    if i.pc && bits % 2 != 1 {
         return Err(FaultKind::BadJump);
     }
     move_list(i, address, bytes, s, m);
-    fall(onwards(i.pc(), bits, next), s);
+    fall(onwards(i.pc, bits, next), s);
     Ok(())
 }
 

@@ -31,10 +31,10 @@ pub(crate) fn check_words(m: &Memory, address: u32, bytes: u32) -> Result<(), Fa
 pub(crate) fn address_of(i: &Pair, s: &Core) -> u32
     ensures { result ≡ address_of_place i.now.n (pair_place i.now.index i.now.up i.now.imm) (alone s.now) }
 {
-    let n = s.word(i.n()).bits();
-    match i.index() {
+    let n = s.word(i.n).bits();
+    match i.index {
         PairIndex::Post => n,
-        _ => moved(i.up(), u64::from(n), u32::from(i.imm())),
+        _ => moved(i.up, u64::from(n), u32::from(i.imm)),
     }
 }
 
@@ -42,11 +42,11 @@ pub(crate) fn address_of(i: &Pair, s: &Core) -> u32
 fn base_of(i: &Pair, s: &Core) -> Option<u32>
     ensures { base_list i.now.n result ≡ base_write i.now.n (pair_place i.now.index i.now.up i.now.imm) (alone s.now) }
 {
-    match i.index() {
+    match i.index {
         PairIndex::Offset => None,
         _ => {
-            let n = u64::from(s.word(i.n()).bits());
-            Some(moved(i.up(), n, u32::from(i.imm())))
+            let n = u64::from(s.word(i.n).bits());
+            Some(moved(i.up, n, u32::from(i.imm)))
         }
     }
 }
@@ -66,14 +66,14 @@ fn transfer(
 {
     let base = base_of(i, s);
     let at = u64::from(address);
-    if i.load() {
-        let t = (i.t(), m.word_at(at).word);
-        let u = (i.u(), m.word_at(at + 4).word);
-        return put_pair(i.n(), base, t, u, next, s);
+    if i.load {
+        let t = (i.t, m.word_at(at).word);
+        let u = (i.u, m.word_at(at + 4).word);
+        return put_pair(i.n, base, t, u, next, s);
     }
-    let t = s.word(i.t());
-    let u = s.word(i.u());
-    match put_base(i.n(), base, next, s) {
+    let t = s.word(i.t);
+    let u = s.word(i.u);
+    match put_base(i.n, base, next, s) {
         Ok(()) => {
             m.store_word(address, t);
             m.store_word(address + 4, u);

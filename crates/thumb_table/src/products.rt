@@ -16,10 +16,10 @@ pub(crate) fn apply_mul(i: &Mul, next: u32, s: &mut Core) -> Result<(), FaultKin
     ensures done { OnOk result (Makes (instr.Mul i.now) next s.old s.new) }
     ensures fault { IfErr result (λ kind. Stops (instr.Mul i.now) next s.old kind × (s.new ≡ s.old)) }
 {
-    let n = s.word(i.n()).bits();
-    let m = s.word(i.m()).bits();
+    let n = s.word(i.n).bits();
+    let m = s.word(i.m).bits();
     let product = n.wrapping_mul(m);
-    write_signed(i.s(), i.d(), product, next, s)
+    write_signed(i.s, i.d, product, next, s)
 }
 
 /// MLA and MLS.
@@ -27,12 +27,12 @@ pub(crate) fn apply_mul_acc(i: &MulAcc, next: u32, s: &mut Core) -> Result<(), F
     ensures done { OnOk result (Makes (instr.MulAcc i.now) next s.old s.new) }
     ensures fault { IfErr result (λ kind. Stops (instr.MulAcc i.now) next s.old kind × (s.new ≡ s.old)) }
 {
-    let n = s.word(i.n()).bits();
-    let m = s.word(i.m()).bits();
-    let a = s.word(i.a()).bits();
+    let n = s.word(i.n).bits();
+    let m = s.word(i.m).bits();
+    let a = s.word(i.a).bits();
     let product = n.wrapping_mul(m);
-    let sum = moved(!i.minus(), u64::from(a), product);
-    write_word(i.d(), Word::plain(sum), next, s)
+    let sum = moved(!i.minus, u64::from(a), product);
+    write_word(i.d, Word::plain(sum), next, s)
 }
 
 /// A number of 64 bits.
@@ -47,13 +47,13 @@ pub(crate) fn apply_long_mul(i: &LongMul, next: u32, s: &mut Core) -> Result<(),
     ensures done { OnOk result (Makes (instr.LongMul i.now) next s.old s.new) }
     ensures fault { IfErr result (λ kind. Stops (instr.LongMul i.now) next s.old kind × (s.new ≡ s.old)) }
 {
-    let n = s.word(i.n()).bits();
-    let m = s.word(i.m()).bits();
-    let hi = s.word(i.hi()).bits();
-    let lo = s.word(i.lo()).bits();
+    let n = s.word(i.n).bits();
+    let m = s.word(i.m).bits();
+    let hi = s.word(i.hi).bits();
+    let lo = s.word(i.lo).bits();
     let old = joined(hi, lo);
-    let product = long_product(i.op(), n, m, old);
-    write_two(i.lo(), i.hi(), product, next, s)
+    let product = long_product(i.op, n, m, old);
+    write_two(i.lo, i.hi, product, next, s)
 }
 
 /// SDIV and UDIV.
@@ -61,8 +61,8 @@ pub(crate) fn apply_div(i: &Div, next: u32, s: &mut Core) -> Result<(), FaultKin
     ensures done { OnOk result (Makes (instr.Div i.now) next s.old s.new) }
     ensures fault { IfErr result (λ kind. Stops (instr.Div i.now) next s.old kind × (s.new ≡ s.old)) }
 {
-    let n = s.word(i.n()).bits();
-    let m = s.word(i.m()).bits();
-    let value = divided(i.signed(), n, m);
-    write_word(i.d(), Word::plain(value), next, s)
+    let n = s.word(i.n).bits();
+    let m = s.word(i.m).bits();
+    let value = divided(i.signed, n, m);
+    write_word(i.d, Word::plain(value), next, s)
 }

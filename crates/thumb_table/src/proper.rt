@@ -100,10 +100,10 @@ fn completes(i: &Half, code: &CodeBytes, s: &Core) -> bool
     ensures { (width : ℕ) (m : Contents) → IsTrue result ↔ OrdinaryTop i.now.d i.now.imm (site_of code.now s.now width) (core_of s.now m) }
 {
     let place = mark_at(code.marks(), s.pc);
-    let old = s.word(i.d());
+    let old = s.word(i.d);
     match place {
         Mark::Plain => is_plain(old.mark()),
-        _ => completed(i.imm(), old, place).mark() == place,
+        _ => completed(i.imm, old, place).mark() == place,
     }
 }
 
@@ -112,7 +112,7 @@ fn is_half_proper(i: &Half, code: &CodeBytes, s: &Core) -> bool
     requires { IsStrictlyIncreasing (map (λ p. p.at) code.now.marks) }
     ensures { (width : ℕ) (m : Contents) → IsTrue result ↔ (i.now.top ≡ true → OrdinaryTop i.now.d i.now.imm (site_of code.now s.now width) (core_of s.now m)) }
 {
-    !i.top() || completes(i, code, s)
+    !i.top || completes(i, code, s)
 }
 
 /// Whether a transfer of two words is used in an ordinary way.
@@ -121,7 +121,7 @@ fn is_pair_proper(i: &Pair, code: &CodeBytes, s: &Core, m: &Memory) -> bool
 {
     let _ = code;
     let address = pairs::address_of(i, s);
-    !i.load() || is_pair_whole(i.t(), i.u(), address, m)
+    !i.load || is_pair_whole(i.t, i.u, address, m)
 }
 
 /// Whether pc is loaded in an ordinary way.
@@ -141,27 +141,27 @@ fn is_multi_proper(i: &Multi, code: &CodeBytes, s: &Core, m: &Memory) -> bool
     ensures { (width : ℕ) → IsTrue result ↔ IsProper (instr.Multi i.now) (site_of code.now s.now width) (core_of s.now m.now) }
 {
     let address = lowest(i, bytes_of(i), s);
-    if !i.load() {
+    if !i.load {
         return true;
     }
-    if !are_whole(i.list(), address, m) {
+    if !are_whole(i.list, address, m) {
         return false;
     }
-    !i.pc() || is_pc_proper(i, code, address, m)
+    !i.pc || is_pc_proper(i, code, address, m)
 }
 
 /// Whether a move is used in an ordinary way.
 fn is_move_proper(i: &Move, s: &Core) -> bool
     ensures { IsTrue result ↔ (i.now.s ≡ true → All (λ r. IsLow (read (alone s.now) r).mark → ⊥) (in_operand i.now.x)) }
 {
-    !i.s() || lacks_halves(i.x(), s)
+    !i.s || lacks_halves(i.x, s)
 }
 
 /// Whether an access is used in an ordinary way.
 fn is_access_proper(i: &Access, s: &Core, m: &Memory) -> bool
     ensures { IsTrue result ↔ OrdinaryAccess i.now.op (address_of i.now.n i.now.place (alone s.now)) (core_of s.now m.now) }
 {
-    reads_whole(i.op(), accesses::address_of(i, s), m)
+    reads_whole(i.op, accesses::address_of(i, s), m)
 }
 
 fn is_no_half(n: Reg, s: &Core) -> bool
@@ -179,14 +179,14 @@ fn is_proper(i: &Instr, code: &CodeBytes, s: &Core, m: &Memory) -> bool
 {
     match i {
         Instr::Move(i) => is_move_proper(i, s),
-        Instr::Test(i) => is_no_half(i.n(), s),
+        Instr::Test(i) => is_no_half(i.n, s),
         Instr::Half(i) => is_half_proper(i, code, s),
         Instr::Access(i) => is_access_proper(i, s, m),
         Instr::Pair(i) => is_pair_proper(i, code, s, m),
         Instr::Multi(i) => is_multi_proper(i, code, s, m),
-        Instr::ZeroBranch(i) => is_no_half(i.n(), s),
-        Instr::Jump(i) => is_ordinary_jump(code, s.word(i.m())),
-        Instr::CallReg(i) => is_ordinary_jump(code, s.word(i.m())),
+        Instr::ZeroBranch(i) => is_no_half(i.n, s),
+        Instr::Jump(i) => is_ordinary_jump(code, s.word(i.m)),
+        Instr::CallReg(i) => is_ordinary_jump(code, s.word(i.m)),
         _ => true,
     }
 }

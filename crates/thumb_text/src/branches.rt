@@ -27,19 +27,19 @@ impl Line {
         requires { length self.old ≤ 12 }
         ensures { self.new ≡ self.old ++ branch_text i.now at }
     {
-        self.push_branch_name(i.cond());
+        self.push_branch_name(i.cond);
         self.push(b' ');
-        self.push_address(branched(at, i.offset()));
+        self.push_address(branched(at, i.offset));
     }
 
     pub(crate) fn push_zero_branch(&mut self, i: &ZeroBranch, at: u32)
         requires { length self.old ≤ 12 }
         ensures { self.new ≡ self.old ++ zero_branch_text i.now at }
     {
-        self.begin(zero_branch_name(i.nonzero()));
-        self.push_register(i.n());
+        self.begin(zero_branch_name(i.nonzero));
+        self.push_register(i.n);
         self.push_comma();
-        self.push_address(branched(at, i.offset()));
+        self.push_address(branched(at, i.offset));
     }
 
     pub(crate) fn push_call(&mut self, i: &Call, at: u32)
@@ -47,7 +47,7 @@ impl Line {
         ensures { self.new ≡ self.old ++ call_text i.now at }
     {
         self.begin("bl");
-        self.push_address(branched(at, i.offset()));
+        self.push_address(branched(at, i.offset));
     }
 
     pub(crate) fn push_jump(&mut self, i: &Jump)
@@ -55,7 +55,7 @@ impl Line {
         ensures { self.new ≡ self.old ++ jump_text i.now }
     {
         self.begin("bx");
-        self.push_register(i.m());
+        self.push_register(i.m);
     }
 
     pub(crate) fn push_call_reg(&mut self, i: &CallReg)
@@ -63,7 +63,7 @@ impl Line {
         ensures { self.new ≡ self.old ++ call_reg_text i.now }
     {
         self.begin("blx");
-        self.push_register(i.m());
+        self.push_register(i.m);
     }
 
     pub(crate) fn push_it(&mut self, i: &It)
@@ -71,20 +71,20 @@ impl Line {
         ensures { self.new ≡ self.old ++ it_text i.now }
     {
         self.begin("it");
-        self.push_text(cond_name(i.first()));
+        self.push_text(cond_name(i.first));
         self.push_comma();
-        self.push_number(u32::from(i.mask()));
+        self.push_number(u32::from(i.mask));
     }
 
     pub(crate) fn push_nothing(&mut self, i: &Nothing)
         requires { length self.old ≤ 12 }
         ensures { self.new ≡ self.old ++ nothing_text i.now }
     {
-        match i.op() {
+        match i.op {
             NothingOp::Nop => self.push_text("nop"),
             _ => {
-                self.begin(nothing_name(i.op()));
-                self.push_number(u32::from(i.option()));
+                self.begin(nothing_name(i.op));
+                self.push_number(u32::from(i.option));
             }
         }
     }
@@ -94,6 +94,6 @@ impl Line {
         ensures { self.new ≡ self.old ++ trap_text i.now }
     {
         self.begin("udf");
-        self.push_number(u32::from(i.imm()));
+        self.push_number(u32::from(i.imm));
     }
 }
