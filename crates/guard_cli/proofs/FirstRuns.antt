@@ -69,15 +69,16 @@ decode_return : decode Outside return_half 0 ≡ Ok (Jump (record { m = 14 }))
 unfolding half_rows
 decode_return = refl
 
-abbrev register_set : ℕ → ℕ → Core → Change
-register_set d i x = record unchanged { regs = (d, plain i) ∷ []; n = Some false; z = Some (i == 0); c = Some x.c }
+abbrev register_set : ℕ → ℕ → Change
+register_set d i = record unchanged { regs = (d, plain i) ∷ []; n = Some false; z = Some (i == 0) }
 
-change_move : (d i : ℕ) (site : Site) (x : Core) → d < 8 → i < 256 → change (Move (record { op = Mov; s = true; d = d; x = Imm i })) site x ≡ Ok (register_set d i x)
+change_move : (d i : ℕ) (site : Site) (x : Core) → d < 8 → i < 256 → change (Move (record { op = Mov; s = true; d = d; x = Imm i })) site x ≡ Ok (register_set d i)
 unfolding change
 change_move d i site x ld li =
     let e1 : i / 2147483648 ≡ 0 = omega arith in
     let e2 = ne_eqb d 13 (omega arith) in
-    rw (expand_low i x.c li, e1, e2)
+    let e3 : i / 1024 % 4 ≡ 0 = omega arith in
+    rw (expand_low i false li, e1, e2, e3)
 
 set_again : (d i : ℕ) (x : Core) → set_register d i (set_register d i x) ≡ set_register d i x
 set_again d i x = rw set-set
@@ -96,7 +97,7 @@ pub move_settles : (code : CodeBytes) (h : ℕ) (x : Core) → IsMove h → x.it
 move_settles code h x e it =
     let d = h / 256 % 8 in
     let i = h % 256 in
-    let once = λ (a : ℕ) (y : Core) (c : y.it ≡ 0). does code (narrow h) a y (Move (record { op = Mov; s = true; d = d; x = Imm i })) (register_set d i y) c (decode_move h e) (change_move d i (record { code = code; address = a; width = 2 }) y (omega arith) (omega arith)) in
+    let once = λ (a : ℕ) (y : Core) (c : y.it ≡ 0). does code (narrow h) a y (Move (record { op = Mov; s = true; d = d; x = Imm i })) (register_set d i) c (decode_move h e) (change_move d i (record { code = code; address = a; width = 2 }) y (omega arith) (omega arith)) in
     record {
       makes = λ a. once a x it ∙ ap (λ y. Ok (at (a + 2) (set_register d i y))) (it_stays x it);
       keeps = λ a. once a (after_move h x) it ∙ ap (λ y. Ok (at (a + 2) y)) (ap (λ y. set_register d i y) (it_stays (after_move h x) it) ∙ set_again d i x);

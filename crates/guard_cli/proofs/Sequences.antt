@@ -5,7 +5,7 @@ use Rattle.thumb_table.specs.States.{Core, State, at}
 use Rattle.thumb_table.specs.declared.faults.FaultKind.TheVariants.{BadFetch}
 use Rattle.thumb_table.specs.Steps.{Fetched, fetch, move}
 use Rattle.thumb_table.specs.Schedules.{go_on, run, exit, Returns}
-use Rattle.guard_cli.proofs.Groups.{Legal, Makes, Group, go_on_ok, run_on, group}
+use Rattle.guard_cli.proofs.Groups.{Legal, FallsTo, Group, go_on_ok, run_on, group}
 
 -- the instructions stand in the code from p to q
 abbrev pub Stands : CodeBytes → List Fetched → ℕ → ℕ → Type 0
@@ -24,8 +24,8 @@ copied c (g ∷ gs) = times c g (copied c gs)
 
 -- f makes m of x, wherever it stands, and a second time changes nothing
 pub record Settles (code : CodeBytes) (f : Fetched) (x m : Core) : Type 0 where
-  pub makes : (a : ℕ) → Makes code f a x m
-  pub keeps : (a : ℕ) → Makes code f a m m
+  pub makes : (a : ℕ) → FallsTo code f a x m
+  pub keeps : (a : ℕ) → FallsTo code f a m m
   pub clear : m.it ≡ 0
 
 -- one instruction after another makes y of x, and each may be executed again at once

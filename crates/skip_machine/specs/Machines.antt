@@ -6,7 +6,7 @@ use Rattle.thumb_table.specs.declared.cores.Core.{Core as Registers}
 use Rattle.thumb_table.specs.Parts.{CodeBytes, Memory, Image}
 use Rattle.thumb_table.specs.States.{State}
 use Rattle.thumb_table.specs.Steps.{Fetched, skip_of}
-use Rattle.thumb_table.specs.Views.{state_of}
+use Rattle.thumb_table.specs.CoreStates.{state_of}
 
 pub record Machine : Type 0 where
   pub code : CodeBytes

@@ -2,7 +2,7 @@
 
 ghost use Rattle.std.specs.Prelude.{◌≡◌, ◌↔◌, ◌+◌, ◌<◌, ◌^◌, IsTrue, OnOk, IfOk, IfErr, length, map};
 ghost use Rattle.thumb_table.specs.Steps.{step_of, skip_of, move, fetch, IsOrdinary};
-ghost use Rattle.thumb_table.specs.Views.{state_of};
+ghost use Rattle.thumb_table.specs.CoreStates.{state_of};
 ghost use Rattle.skip_machine.specs.Fetches.{as_fetched};
 ghost use Rattle.skip_machine.specs.Machines.{IsSound, PassesOver};
 ghost use Rattle.thumb_table.specs.Schedules.{OrdinaryStep};

@@ -8,5 +8,6 @@ pub mod Steps
 pub mod Schedules
 pub mod Images
 pub mod Calls
+pub mod CoreStates
 pub mod Views
 pub mod Results

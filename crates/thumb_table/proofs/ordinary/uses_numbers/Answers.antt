@@ -6,7 +6,7 @@ use Rattle.thumb_instr.specs.declared.instructions.Instr.TheVariants as instr
 use Rattle.thumb_instr.specs.Fields.{AluFields, LongMulFields, AccessFields}
 use Rattle.thumb_table.specs.Ordinary.{IsPlain, is_zero_test, used}
 use Rattle.thumb_table.specs.States.{read}
-use Rattle.thumb_table.specs.Views.{alone}
+use Rattle.thumb_table.specs.CoreStates.{alone}
 use Rattle.thumb_table.proofs.ordinary.uses_numbers.Goals as goal
 
 pub returns-in-Alu : goal.returns-in-Alu
