@@ -10,9 +10,10 @@ use Rattle.elf_model.specs.declared.refusals.Limit.{Limit}
 use Rattle.elf_model.specs.declared.refusals.Refusal.TheVariants.{BadReloc}
 use Rattle.elf_model.specs.Constants.{rel, nobits}
 use Rattle.elf_model.specs.Fields.{word_at}
+use Rattle.elf_model.specs.Objects.{code_width}
 use Rattle.elf_model.specs.Files.{header, header_count, header_place, is_kept, IsKind}
 use Rattle.elf_read.specs.declared.places.Place.{Place}
-use Rattle.elf_read.specs.Faults.{Fault, IsHeader, IsRelocAt, IsKeptSymbol, reloc_width}
+use Rattle.elf_read.specs.Faults.{Fault, IsHeader, IsRelocAt, IsKeptSymbol}
 use Rattle.elf_read.specs.Faults.Fault.{bad_symbol, bad_place, second_place, nobits_target}
 use Rattle.elf_read.specs.HeaderFaults.{IsTabled}
 use Rattle.elf_read.specs.Keeping.{flag_at, is_kept_relocs}
@@ -131,7 +132,7 @@ module _ (b : List ℕ) where
         omega (arith, t.0),
         elim (or_cases _ _ t.1) [
           | inl a ↦ inr (moved h j k.0 k.1 (header b h).info (word_at b r) of at (taken.sound k (not-false _ (sym new ∙ not-true added a))))
-          | inr p ↦ inl (let l = leb-false (word_at b r + reloc_width (word_at b (r + 4) % 256)) room (not-true _ p) in omega (arith, l, wide))
+          | inr p ↦ inl (let l = leb-false (word_at b r + code_width (word_at b (r + 4) % 256)) room (not-true _ p) in omega (arith, l, wide))
         ],
       );
     }
@@ -150,7 +151,7 @@ module _ (b : List ℕ) where
             inl (
               refl,
               elim w.1 [
-                | inl l ↦ or_right (not added) _ (not_from_false _ (lt-leb _ room (let m = subst (λ (x : ℕ). (header b (header b h).info).size < word_at b x + reloc_width (word_at b (x + 4) % 256)) same l in omega (arith, m, wide))))
+                | inl l ↦ or_right (not added) _ (not_from_false _ (lt-leb _ room (let m = subst (λ (x : ℕ). (header b (header b h).info).size < word_at b x + code_width (word_at b (x + 4) % 256)) same l in omega (arith, m, wide))))
                 | inr e ↦ or_left (not added) _ (not_from_false added (new ∙ ap not (taken.whole k (moved h j (header b h).info (word_at b r) k.0 k.1 (sym of) (sym at) (subst (λ (x : ℕ). IsEarlier b h j (header b h).info (word_at b x)) same e)))))
               ],
             ),

@@ -4,9 +4,6 @@ ghost use Rattle.std.specs.Prelude.{◌≡◌, ◌<◌, ◌^◌, ℕ, length};
 ghost use Rattle.elf_model.specs.declared.refusals.Limit.{Limit as OfLimit};
 ghost use Rattle.elf_read.specs.FirstFaults.{IsFirstBelow, spot_at};
 
-#[cfg(test)]
-mod tests;
-
 use crate::format::{first_not_arm, first_not_elf};
 use crate::names::first_bad_name;
 use crate::places::Place;

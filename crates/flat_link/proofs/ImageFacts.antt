@@ -19,7 +19,7 @@ use Rattle.flat_link.specs.declared.places.Sort.TheVariants.{Code, Data}
 use Rattle.flat_link.specs.Placing.{parts_from, end_of, code_starts, can_fit}
 use Rattle.flat_link.specs.Symbols.{function_place, is_global, is_named, is_second, is_meant, entry_at, entry_list, AreOnce}
 use Rattle.flat_link.specs.Made.{IsLinked}
-use Rattle.flat_link.proofs.Elements.{contains_none, contains_filter}
+use Rattle.elf_model.proofs.Elements.{contains_none, contains_filter}
 use Rattle.flat_link.proofs.NameFacts.{same_name_self}
 use Rattle.flat_link.proofs.Walks.{bytes_end}
 use Rattle.flat_link.proofs.PartFacts.{both}

@@ -1,4 +1,3 @@
-pub mod Elements
 pub mod FitFacts
 pub mod ImageFacts
 pub mod MeantFacts

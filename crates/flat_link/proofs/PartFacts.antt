@@ -17,7 +17,7 @@ use Rattle.flat_link.specs.declared.places.Sort.{Sort}
 use Rattle.flat_link.specs.declared.places.Sort.TheVariants.{Code, Data}
 use Rattle.flat_link.specs.Placing.{is_of, alignment_of, parts_from, end_after, end_of, code_starts}
 use Rattle.flat_link.specs.Symbols.{code_start, end_stops}
-use Rattle.flat_link.proofs.Elements.{contains_cases, contains_here, contains_later, contains_none, found, finds}
+use Rattle.elf_model.proofs.Elements.{contains_cases, contains_here, contains_later, contains_none, found, finds}
 use Rattle.flat_link.proofs.Walks.{part_at, parts_yes, parts_no, after_yes, after_no, end_grows}
 
 -- a part is of its section

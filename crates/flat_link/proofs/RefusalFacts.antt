@@ -21,7 +21,7 @@ use Rattle.flat_link.specs.Placing.{end_of, can_fit}
 use Rattle.flat_link.specs.Symbols.{is_global, is_named, is_second, home_section, IsLowest, AreOnce}
 use Rattle.flat_link.specs.Refusals.{LinkFault, StandsBefore, symbol_of, ComesBefore, IsLinkRefusal, IsLinkDenial, IsDuplicate, IsTooLong, IsOneDenial}
 use Rattle.flat_link.specs.Refusals.LinkFault.{defined_twice, long_code, long_data, high_end}
-use Rattle.flat_link.proofs.Elements.{filter_contains}
+use Rattle.elf_model.proofs.Elements.{filter_contains}
 use Rattle.flat_link.proofs.NameFacts.{same_name_is}
 use Rattle.flat_link.proofs.SymbolFacts.{defined_at, numbered_has}
 use Rattle.flat_link.proofs.MeantFacts.{named_there, get_take}

@@ -18,7 +18,7 @@ use Rattle.flat_link.specs.declared.places.Sort.TheVariants.{Code, Data}
 use Rattle.flat_link.specs.Placing.{parts_from, code_starts}
 use Rattle.flat_link.specs.Symbols.{code_start, function_place, function_stops, last_mapping, is_number, is_last, data_place, data_stops, end_stops}
 use Rattle.flat_link.specs.Made.{all_stops}
-use Rattle.flat_link.proofs.Elements.{contains_none, contains_map, map_contains}
+use Rattle.elf_model.proofs.Elements.{contains_none, contains_map, map_contains}
 use Rattle.flat_link.proofs.PartFacts.{both, part_is, start_is, starts_at, code_part, in_code, not_in_code, ends_are}
 use Rattle.flat_link.proofs.SymbolFacts.{defined_at, numbered_is, numbered_has, functions_are, data_are, stop_of, has_stop, sound, covers}
 

@@ -7,7 +7,7 @@ use Rattle.elf_model.specs.declared.objects.Symbol.{Symbol}
 use Rattle.thumb_table.specs.Images.{Defined, numbered}
 use Rattle.elf_model.specs.Ranges.{is_mapping, stands_at}
 use Rattle.flat_link.specs.Symbols.{function_place, function_stops, data_place, data_stops, last_mapping}
-use Rattle.flat_link.proofs.Elements.{contains_cases, contains_here, contains_later, contains_none}
+use Rattle.elf_model.proofs.Elements.{contains_cases, contains_here, contains_later, contains_none}
 
 abbrev pub defined_at : ℕ → ℕ → Symbol → Defined
 defined_at i k s = record { object = i; index = k; symbol = s }

@@ -9,6 +9,3 @@ mod sections;
 mod stops;
 
 pub use linker::link;
-
-#[cfg(test)]
-mod tests;

@@ -10,14 +10,14 @@ use Rattle.elf_model.specs.Objects.{ObjectParts, is_object, is_placed, is_kind}
 use Rattle.thumb_instr.specs.declared.instructions.Instr.{Instr}
 use Rattle.flow_recover.specs.declared.aims.Aim.{Aim}
 use Rattle.flow_recover.specs.declared.aims.Aim.TheVariants.{Near, Shared, Fixed, Far}
-use Rattle.flow_recover.specs.declared.charts.Placed.{Placed}
-use Rattle.flow_recover.specs.Relocations.{IsRight, reloc_at, target_of}
+use Rattle.reloc_places.specs.declared.relocations.Placed.{Placed}
+use Rattle.reloc_places.specs.Relocations.{IsRight, reloc_at, target_of}
 use Rattle.flow_recover.specs.Aims.{aim_at, IsAim}
 use Rattle.flow_recover.specs.Aims.IsAim.{by_offset, by_symbol, not_right}
-use Rattle.flow_recover.specs.Charts.{AreRelocs, index_of}
+use Rattle.reloc_places.specs.Tables.{AreRelocs, index_of}
 use Rattle.flow_recover.specs.Walks.{offset_in}
-use Rattle.flow_recover.proofs.ObjectFacts.{reloc_sound}
-pub use Rattle.flow_recover.proofs.Elements.{element_at}
+use Rattle.code_ranges.proofs.ObjectFacts.{reloc_sound}
+pub use Rattle.elf_model.proofs.Elements.{element_at}
 
 module _ (o : ObjectParts) where
   pub aim_once : (j x : ℕ) (i : Instr) (a b : Aim) → IsAim o j x i a → IsAim o j x i b → a ≡ b

@@ -13,12 +13,12 @@ use Rattle.thumb_instr.specs.declared.instructions.Instr.TheVariants as instr
 use Rattle.thumb_instr.specs.Fields.{ItFields}
 use Rattle.flow_recover.specs.declared.blocks.Block.{Block}
 use Rattle.flow_recover.specs.declared.nodes.Node.{Node}
-use Rattle.flow_recover.specs.Starts.{bytes_of, IsCodeStart, behind, following}
+use Rattle.reloc_places.specs.Starts.{bytes_of, IsCodeStart, behind, following}
 use Rattle.flow_recover.specs.Reach.{IsFound, IsReached}
 use Rattle.flow_recover.specs.FlowFaults.{block_length, IsInBlock}
 use Rattle.flow_recover.specs.Gains.{has_place, PlacesGain, IsFrom}
 use Rattle.flow_recover.specs.NodeFaults.{mask_of, IsBlock, IsBelow, IsMember, IsBlockPlace, IsCut}
-use Rattle.flow_recover.proofs.Elements.{contains_cases, contains_here, contains_later, contains_none}
+use Rattle.elf_model.proofs.Elements.{contains_cases, contains_here, contains_later, contains_none}
 use Rattle.flow_recover.proofs.AnswerFacts.{not_true, none_is, some_is, none_of, this_of, one_of}
 use Rattle.flow_recover.proofs.GainFacts.{gain_none, gain_same}
 

@@ -5,12 +5,12 @@ use Rattle.std.proofs.lemmas.Bool.{true≢false}
 use Rattle.std.proofs.lemmas.Option.{none-some, same_Some}
 use Rattle.elf_model.specs.Fields.{half_at}
 use Rattle.elf_model.specs.Objects.{ObjectParts, is_object, is_within}
-use Rattle.flow_recover.specs.Charts.{AreStarts, AreFunctions}
-use Rattle.flow_recover.specs.Starts.{bytes_of, is_nop}
+use Rattle.reloc_places.specs.Tables.{AreStarts, AreFunctions}
+use Rattle.reloc_places.specs.Starts.{bytes_of, is_nop}
 use Rattle.flow_recover.specs.Reach.{IsDeadEnd}
 use Rattle.flow_recover.specs.Reach.IsDeadEnd.{no_code, function, nop}
 use Rattle.flow_recover.specs.DeadEnds.{IsLimit, IsNopAt}
-use Rattle.flow_recover.proofs.StartFacts.{any_limit, start_inside}
+use Rattle.reloc_places.proofs.StartFacts.{any_limit, start_inside}
 
 pub no_start_limit : (o : ObjectParts) (end_at : ℕ → ℕ → Option ℕ) (j x : ℕ) → AreStarts o end_at → end_at j x ≡ None → IsTrue true ↔ IsLimit o j x
 no_start_limit o end_at j x starts none = (λ t. inr (λ h. none-some h.end (sym none ∙ (starts j x h.end).1 h.start)), λ l. refl)

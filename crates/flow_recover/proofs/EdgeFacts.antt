@@ -8,14 +8,15 @@ use Rattle.thumb_instr.specs.declared.instructions.Instr.{Instr}
 use Rattle.flow_recover.specs.declared.nodes.Node.{Node}
 use Rattle.flow_recover.specs.declared.aims.Aim.{Aim}
 use Rattle.flow_recover.specs.declared.aims.Aim.TheVariants.{Near, Shared}
-use Rattle.flow_recover.specs.Starts.{HasStart, behind}
+use Rattle.reloc_places.specs.Starts.{HasStart, behind}
 use Rattle.flow_recover.specs.Aims.{has_offset, IsAim}
-use Rattle.flow_recover.specs.Reach.{IsFound, GoesOn, it_behind, node_behind, node_at, LeadsOn, LeadsAway}
+use Rattle.flow_recover.specs.Reach.{IsFound, GoesOn, node_behind, node_at, LeadsOn, LeadsAway}
+use Rattle.reloc_places.specs.Starts.{it_behind}
 use Rattle.flow_recover.specs.Reach.LeadsOn.{on}
 use Rattle.flow_recover.specs.Reach.LeadsAway.{away}
-use Rattle.flow_recover.specs.Charts.{AreStarts}
+use Rattle.reloc_places.specs.Tables.{AreStarts}
 use Rattle.flow_recover.specs.Walks.{IsStartBehind, offset_in, IsStartAimed}
-use Rattle.flow_recover.proofs.StartFacts.{start_found}
+use Rattle.reloc_places.proofs.StartFacts.{start_found}
 use Rattle.flow_recover.proofs.FoundFacts.{found_once}
 use Rattle.flow_recover.proofs.AimFacts.{leads_to, led_to}
 

@@ -9,7 +9,7 @@ use Rattle.std.proofs.lemmas.Option.{same_Some, slice_get_within}
 use Rattle.flow_recover.specs.declared.nodes.Node.{Node}
 use Rattle.flow_recover.specs.Settled.{IsAmong, AreEntries}
 use Rattle.flow_recover.proofs.GainFacts.{push_gains}
-use Rattle.flow_recover.proofs.Elements.{contains_none}
+use Rattle.elf_model.proofs.Elements.{contains_none}
 
 pub among_is : (is_in : ℕ → ℕ → Bool) (n : Node) (b : Bool) → n.it ≡ 0 → b ≡ is_in n.section n.offset → (b ≡ true) ↔ IsAmong is_in n
 among_is is_in n b clear e = (

@@ -14,8 +14,8 @@ use Rattle.thumb_instr.specs.Fields.{AdrFields}
 use Rattle.flow_recover.specs.declared.blocks.Block.{Block}
 use Rattle.flow_recover.specs.declared.named.Claim.{Claim}
 use Rattle.flow_recover.specs.declared.nodes.Node.{Node}
-use Rattle.flow_recover.specs.Spots.{spot_of}
-use Rattle.flow_recover.specs.Starts.{bytes_of, HasStart, behind, following}
+use Rattle.code_ranges.specs.Spots.{spot_of}
+use Rattle.reloc_places.specs.Starts.{bytes_of, HasStart, behind, following}
 use Rattle.flow_recover.specs.Reach.{IsFound, IsReached}
 use Rattle.flow_recover.specs.FlowFaults.{IsReachedInstr, IsClaim, block_length, refusal_of, IsInBlock, FlowFault}
 use Rattle.flow_recover.specs.FlowFaults.FlowFault.{no_instr, adr, relocation, no_start, in_block, absolute, arm_address, no_word, no_code, cut_block}
@@ -24,7 +24,7 @@ use Rattle.flow_recover.specs.Charts.{AreFaults}
 use Rattle.flow_recover.specs.NodeFaults.{IsBlock, is_adr, IsInstrSpot, IsNodeSpot, IsClaimSpot}
 use Rattle.flow_recover.specs.NodeFaults.IsInstrSpot.{adr as of_adr, absolute as of_absolute, no_word as of_word, no_code as of_code, cut_block as of_block}
 use Rattle.flow_recover.specs.RelocFaults.{IsWrongReloc, IsArmAddress}
-use Rattle.flow_recover.proofs.Elements.{contains_none}
+use Rattle.elf_model.proofs.Elements.{contains_none}
 use Rattle.flow_recover.proofs.GainFacts.{Gain, gain_both}
 
 -- a spot is where a fault is

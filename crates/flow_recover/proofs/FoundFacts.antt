@@ -4,10 +4,10 @@ use Rattle.std.proofs.lemmas.Option.{none-some, same_Some}
 use Rattle.elf_model.specs.Objects.{ObjectParts}
 use Rattle.thumb_instr.specs.Rows.{Answer}
 use Rattle.flow_recover.specs.declared.nodes.Node.{Node}
-use Rattle.flow_recover.specs.Starts.{bytes_of, instr_at}
+use Rattle.reloc_places.specs.Starts.{bytes_of, instr_at}
 use Rattle.flow_recover.specs.Reach.{IsFound}
-use Rattle.flow_recover.specs.Charts.{AreStarts}
-use Rattle.flow_recover.proofs.StartFacts.{start_unique}
+use Rattle.reloc_places.specs.Tables.{AreStarts}
+use Rattle.reloc_places.proofs.StartFacts.{start_unique}
 
 pub found_once : (o : ObjectParts) (n : Node) (a b : Answer) → IsFound o n a → IsFound o n b → a ≡ b
 found_once o n a b f g =

@@ -9,9 +9,9 @@ use Rattle.std.proofs.lemmas.List.{take_more, take_all}
 use Rattle.std.proofs.lemmas.List.Elements.{Contains-push, Contains-push_cases, Contains-append_left}
 use Rattle.std.proofs.lemmas.Option.{none-some, same_Some}
 use Rattle.flow_recover.specs.Gains.{Gains, has_place, PlacesGain, IsFrom}
-use Rattle.flow_recover.specs.Spans.{place_cmp}
-use Rattle.flow_recover.proofs.Elements.{contains_none}
-use Rattle.flow_recover.proofs.PlaceOrder.{same_place}
+use Rattle.code_ranges.specs.Spans.{place_cmp}
+use Rattle.elf_model.proofs.Elements.{contains_none}
+use Rattle.code_ranges.proofs.PlaceOrder.{same_place}
 
 -- one element, or one place, is had before and after
 abbrev pub Gain : Type 0 → Type 0 → Type 0 → Type 0

@@ -1,24 +1,8 @@
-pub mod SpotFacts
-mod KindFacts
-pub mod ObjectFacts
-mod PlaceOrder
-pub mod Elements
-mod MarkFacts
-mod SpanFacts
-mod FaultFacts
-mod RangeFacts
-pub mod RangeOrder
-pub mod StartFacts
 pub mod NodeOrder
 pub mod FoundFacts
 pub mod Searches
-pub mod RelocPlaces
 pub mod LiteralFacts
-mod RangeStarts
-mod StartTables
 mod DeadEndFacts
-pub mod RelocOrder
-pub mod RelocTable
 pub mod AimFacts
 pub mod WalkFacts
 pub mod NodePlaces
@@ -39,5 +23,4 @@ mod EntryFacts
 pub mod EntryIndexes
 pub mod WholeFlowFacts
 pub mod FlowEdges
-pub mod InOrder
 pub mod OneFlow

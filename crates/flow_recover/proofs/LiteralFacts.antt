@@ -15,8 +15,8 @@ use Rattle.flow_recover.specs.Gains.{has_place, PlacesGain, IsFrom}
 use Rattle.flow_recover.proofs.AnswerFacts.{none_is, none_of, this_of, one_of}
 use Rattle.flow_recover.proofs.GainFacts.{gain_none, gain_same}
 use Rattle.flow_recover.specs.Settled.{IsNamedBy, IsLoad, IsLoadedPlace, ArePlaces}
-use Rattle.flow_recover.specs.Spans.{place_cmp}
-use Rattle.flow_recover.proofs.PlaceOrder.{place_total, place_exact}
+use Rattle.code_ranges.specs.Spans.{place_cmp}
+use Rattle.code_ranges.proofs.PlaceOrder.{place_total, place_exact}
 
 -- a load is what stands at a node and names a place
 pub load_from : (o : ObjectParts) (n : Node) (i : Instr) (r : Option (ℕ × ℕ)) → ((k : Instr) → (Some i ≡ Some k) ↔ IsFound o n (Ok k)) → ((p : ℕ × ℕ) → (r ≡ Some p) ↔ IsNamedBy n i p) → (p : ℕ × ℕ) → (r ≡ Some p) ↔ IsLoad o n p

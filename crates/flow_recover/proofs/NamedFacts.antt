@@ -9,13 +9,14 @@ use Rattle.elf_model.specs.declared.objects.Home.TheVariants as home
 use Rattle.elf_model.specs.Objects.{ObjectParts, even}
 use Rattle.flow_recover.specs.declared.named.Claim.{Claim}
 use Rattle.flow_recover.specs.declared.references.Address.{Address}
-use Rattle.flow_recover.specs.Relocations.{holds_code, is_in_code, value_of, target_of}
+use Rattle.reloc_places.specs.Relocations.{is_in_code, value_of, target_of}
+use Rattle.code_ranges.specs.CodeRanges.{holds_code}
 use Rattle.flow_recover.specs.Aims.{is_entry, IsNamed}
 use Rattle.flow_recover.specs.Aims.IsNamed.{by_symbol, by_address, by_branch}
 use Rattle.flow_recover.specs.Gains.{Gains, IsFrom}
 use Rattle.flow_recover.specs.NamedClaims.{code_home, IsAddress, IsFarTarget, claim_by, own_claim, IsAddressClaim, IsBranchClaim, claim_in, entry_claim, IsEntryClaim}
 use Rattle.flow_recover.specs.Charts.{AreNamed}
-use Rattle.flow_recover.proofs.Elements.{contains_none, contains_at, place_of}
+use Rattle.elf_model.proofs.Elements.{contains_none, contains_at, place_of}
 use Rattle.flow_recover.proofs.GainFacts.{Tells, gains_some, gains_nothing}
 
 -- the claim of one relocation

@@ -16,8 +16,8 @@ use Rattle.flow_recover.specs.declared.aims.Aim.{Aim}
 use Rattle.flow_recover.specs.declared.aims.Aim.TheVariants.{Near, Shared, Fixed, Far}
 use Rattle.flow_recover.specs.declared.named.Claim.{Claim}
 use Rattle.flow_recover.specs.declared.nodes.Node.{Node}
-use Rattle.flow_recover.specs.Spots.{spot_of}
-use Rattle.flow_recover.specs.Starts.{HasStart, IsDataWord}
+use Rattle.code_ranges.specs.Spots.{spot_of}
+use Rattle.reloc_places.specs.Starts.{HasStart, IsDataWord}
 use Rattle.flow_recover.specs.Aims.{has_offset, IsAim}
 use Rattle.flow_recover.specs.Reach.{IsFound}
 use Rattle.flow_recover.specs.FlowFaults.{literal_place, refusal_of, IsInBlock}

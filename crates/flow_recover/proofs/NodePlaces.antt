@@ -11,10 +11,10 @@ use Rattle.std.proofs.lemmas.List.{length-map}
 use Rattle.std.proofs.lemmas.List.Elements.{Contains-get_or}
 use Rattle.std.proofs.lemmas.Map.Keys.{Less-from_sorted, sorted_from_all_adjacent}
 use Rattle.flow_recover.specs.declared.nodes.Node.{Node}
-use Rattle.flow_recover.specs.Spans.{place_cmp}
+use Rattle.code_ranges.specs.Spans.{place_cmp}
 use Rattle.flow_recover.specs.Charts.{node_cmp}
 use Rattle.flow_recover.specs.WholeFlows.{place_of_node}
-use Rattle.flow_recover.proofs.PlaceOrder.{place_total}
+use Rattle.code_ranges.proofs.PlaceOrder.{place_total}
 
 -- of two nodes in order that differ in state only where they differ in place, the places are in order
 lower_place : (a b : Node) → node_cmp a b ≡ Less → (a.section ≡ b.section → a.offset ≡ b.offset → a.it ≡ b.it) → place_cmp (place_of_node a) (place_of_node b) ≡ Less

@@ -25,11 +25,11 @@ use Rattle.flow_recover.specs.declared.flows.Exit.TheVariants as exit
 use Rattle.flow_recover.specs.declared.flows.Point.{Point}
 use Rattle.flow_recover.specs.declared.flows.PoolWord.{PoolWord}
 use Rattle.flow_recover.specs.declared.nodes.Node.{Node}
-use Rattle.flow_recover.specs.declared.ranges.Range.{Range}
-use Rattle.flow_recover.specs.CodeRanges.{RangeFault, IsRangeRefusal, comes_before, is_below, rise, AreRanges}
-use Rattle.flow_recover.specs.CodeRanges.RangeFault.{no_mapping, arm_range, arm_function}
+use Rattle.code_ranges.specs.declared.ranges.Range.{Range}
+use Rattle.code_ranges.specs.CodeRanges.{RangeFault, IsRangeRefusal, comes_before, is_below, rise, AreRanges}
+use Rattle.code_ranges.specs.CodeRanges.RangeFault.{no_mapping, arm_range, arm_function}
 use Rattle.flow_recover.specs.Flows.{FlowParts}
-use Rattle.flow_recover.specs.Spans.{place_cmp}
+use Rattle.code_ranges.specs.Spans.{place_cmp}
 use Rattle.flow_recover.specs.Reach.{node_behind, node_at}
 use Rattle.flow_recover.specs.FlowFaults.{literal_place, refusal_of, FlowFault, IsFlowRefusal, IsFlowDenial}
 use Rattle.flow_recover.specs.FlowFaults.{FlowFault as fault}
@@ -38,24 +38,11 @@ use Rattle.flow_recover.specs.WholeFlows.{IsExit as exits}
 use Rattle.flow_recover.specs.WholeFlows.{IsNext as nexts}
 use Rattle.flow_recover.specs.WholeFlows.{IsLoaded as loads}
 use Rattle.flow_recover.proofs.AimFacts.{aim_once}
-use Rattle.flow_recover.proofs.Elements.{all_at, place_of, element_at}
-use Rattle.flow_recover.proofs.InOrder.{Rises, through, one_list, one_index, same_at_each, never_less, never_itself, rises_keys, rises_numbers}
+use Rattle.elf_model.proofs.Elements.{all_at, place_of, element_at}
+use Rattle.code_ranges.proofs.InOrder.{Rises, through, one_list, one_index, same_at_each, never_less, never_itself, rises_keys, rises_numbers}
 use Rattle.flow_recover.proofs.OneState.{one_instr}
-use Rattle.flow_recover.proofs.PlaceOrder.{place_total}
-use Rattle.flow_recover.proofs.SpotFacts.{tied_section, tied_offset, tied_number}
-
--- ranges
-never_below : (a b : Range) → is_below a b ≡ true → is_below b a ≡ true → ⊥
-never_below a b h k = grind (arith, nat_tests)
-
-rises_ranges : (rs : List Range) → rise rs ≡ true → Rises (λ (a b : Range). is_below a b ≡ true) rs
-rises_ranges [] h = tt
-rises_ranges (r ∷ rs) h =
-    let both = and_parts (list_all (is_below r) rs) (rise rs) h in
-    (λ z there. let at = place_of rs z there in all_at (is_below r) rs at.0 z both.0 at.1, rises_ranges rs both.1)
-
-pub ranges_once : (o : ObjectParts) (r s : List Range) → AreRanges o r → AreRanges o s → r ≡ s
-ranges_once o r s a b = one_list (λ (x y : Range). is_below x y ≡ true) never_below r s (rises_ranges r a.order) (rises_ranges s b.order) (λ z. through (a.exact z) (b.exact z))
+use Rattle.code_ranges.proofs.PlaceOrder.{place_total}
+use Rattle.code_ranges.proofs.OneRanges.{ranges_once, IsNamed, named_as, same_spot, range_refusal_once}
 
 -- lists that rise by places
 module _ {X : Type 0} (place : X → ℕ × ℕ) where
@@ -162,15 +149,6 @@ point_once_at o f flow p q x y at at2 e g =
     let offset : n.0.offset ≡ m.0.offset = sym n.3 ∙ g ∙ m.3 in
     index_once place_of_node flow.nodes p q n.0 m.0 flow.order n.1 m.1 (λ i. (section i, offset i))
 
--- the refusals of ranges and flows, by their numbers
-abbrev named : ℕ → Refusal
-named k = get_or
-    (refusal.NoMapping ∷ refusal.ArmCode ∷ refusal.Unknown ∷ refusal.Unpredictable ∷ refusal.SupervisorCall ∷ refusal.TableBranch ∷ refusal.ReadsAndSetsFlags ∷ refusal.SystemInstr ∷ refusal.PcOperand ∷ refusal.RelocKind ∷ refusal.IntoMiddle ∷ refusal.FallsOff ∷ [])
-    (k - 9) refusal.NoEntry
-
-abbrev IsNamed : Refusal → Type 0
-IsNamed r = named (number_of r) ≡ r
-
 named_bad : (b : BadInstr) → IsNamed (refusal_of b)
 named_bad bad.Unknown = refl
 named_bad bad.Unpredictable = refl
@@ -179,14 +157,6 @@ named_bad bad.TableBranch = refl
 named_bad bad.ReadsAndSetsFlags = refl
 named_bad bad.SystemInstr = refl
 named_bad bad.PcOperand = refl
-
-named_as : (r q : Refusal) → r ≡ q → IsNamed q → IsNamed r
-named_as r q e h = subst (λ (z : Refusal). IsNamed z) (sym e) h
-
-named_range : (o : ObjectParts) (r : Refusal) (j x : ℕ) → RangeFault o r j x → IsNamed r
-named_range o _ _ _ (no_mapping j s at code bytes none) = refl
-named_range o _ _ _ (arm_range j start end range) = refl
-named_range o _ _ _ (arm_function k j f s at kind home clear there code) = refl
 
 named_flow : (o : ObjectParts) (r : Refusal) (j x : ℕ) → FlowFault o r j x → IsNamed r
 named_flow o r j x (fault.no_instr n b reached found e section offset) = named_as r (refusal_of b) e (named_bad b)
@@ -199,19 +169,6 @@ named_flow o r j x (fault.arm_address q s k reference clear e section offset) = 
 named_flow o r j x (fault.no_word n i reached none e section offset) = named_as r refusal.IntoMiddle e refl
 named_flow o r j x (fault.no_code n i reached falls none e section offset) = named_as r refusal.FallsOff e refl
 named_flow o r j x (fault.cut_block n i reached found cut e section offset) = named_as r refusal.FallsOff e refl
-
-pub same_fields : (s t : Spot) → s.refusal ≡ t.refusal → s.file ≡ t.file → s.section ≡ t.section → s.offset ≡ t.offset → s ≡ t
-same_fields s t a b c d = λ i. record { refusal = a i; file = b i; section = c i; offset = d i }
-
-same_spot : (s t : Spot) → IsNamed s.refusal → IsNamed t.refusal → s.file ≡ 0 → t.file ≡ 0 → comes_before s.refusal s.section s.offset t ≡ false → comes_before t.refusal t.section t.offset s ≡ false → s ≡ t
-same_spot s t h k f g p q =
-    let number : number_of s.refusal ≡ number_of t.refusal = tied_number s.section s.offset (number_of s.refusal) t.section t.offset (number_of t.refusal) p q in
-    same_fields s t (sym h ∙ ap named number ∙ k) (f ∙ sym g) (tied_section s.section s.offset (number_of s.refusal) t.section t.offset (number_of t.refusal) p q)
-    (tied_offset s.section s.offset (number_of s.refusal) t.section t.offset (number_of t.refusal) p q)
-
-pub range_refusal_once : (o : ObjectParts) (s t : Spot) → IsRangeRefusal o s → IsRangeRefusal o t → s ≡ t
-range_refusal_once o s t a b =
-    same_spot s t (named_range o s.refusal s.section s.offset a.fault) (named_range o t.refusal t.section t.offset b.fault) a.file b.file (b.first s.refusal s.section s.offset a.fault) (a.first t.refusal t.section t.offset b.fault)
 
 flow_refusal_once : (o : ObjectParts) (s t : Spot) → IsFlowRefusal o s → IsFlowRefusal o t → s ≡ t
 flow_refusal_once o s t a b =

@@ -15,16 +15,17 @@ use Rattle.thumb_instr.specs.Blocks.{it_state, it_after, number_of}
 use Rattle.thumb_instr.specs.Fields.{ItFields}
 use Rattle.thumb_instr.specs.Rows.{Answer}
 use Rattle.flow_recover.specs.declared.nodes.Node.{Node}
-use Rattle.flow_recover.specs.Starts.{bytes_of, instr_at, behind, following, decoded_at}
-use Rattle.flow_recover.specs.Reach.{IsFound, it_behind, LeadsOn, IsReached}
+use Rattle.reloc_places.specs.Starts.{bytes_of, instr_at, behind, following, decoded_at}
+use Rattle.flow_recover.specs.Reach.{IsFound, LeadsOn, IsReached}
+use Rattle.reloc_places.specs.Starts.{it_behind}
 use Rattle.flow_recover.specs.Reach.LeadsOn.{on}
 use Rattle.flow_recover.specs.Reach.LeadsAway.{away}
 use Rattle.flow_recover.specs.Reach.IsReached.{named, led_on, led_away}
 use Rattle.flow_recover.specs.FlowFaults.{IsClaim, IsInBlock, block_length, FlowFault}
 use Rattle.flow_recover.specs.FlowFaults.IsClaim.{by_object, by_instr}
 use Rattle.flow_recover.specs.FlowFaults.FlowFault.{in_block, cut_block}
-use Rattle.flow_recover.proofs.Elements.{contains_here, contains_later}
-use Rattle.flow_recover.proofs.StartFacts.{length_least, start_unique, starts_apart}
+use Rattle.elf_model.proofs.Elements.{contains_here, contains_later}
+use Rattle.reloc_places.proofs.StartFacts.{length_least, start_unique, starts_apart}
 
 -- a block is as long as the lowest set bit of its mask says
 four_long : (m : ℕ) → m % 2 ≡ 1 → block_length m ≡ 4

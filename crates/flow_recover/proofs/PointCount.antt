@@ -11,12 +11,12 @@ use Rattle.std.proofs.lemmas.Map.Views.{All-after_first}
 use Rattle.elf_model.specs.declared.objects.Section.{Section}
 use Rattle.elf_model.specs.Objects.{ObjectParts, is_object, is_within, is_code, code_size}
 use Rattle.flow_recover.specs.declared.nodes.Node.{Node}
-use Rattle.flow_recover.specs.Spans.{place_cmp}
-use Rattle.flow_recover.specs.Starts.{bytes_of, HasStart}
+use Rattle.code_ranges.specs.Spans.{place_cmp}
+use Rattle.reloc_places.specs.Starts.{bytes_of, HasStart}
 use Rattle.flow_recover.specs.WholeFlows.{place_of_node}
-use Rattle.flow_recover.proofs.Elements.{contains_here, contains_later, map_contains}
-use Rattle.flow_recover.proofs.MarkFacts.{less}
-use Rattle.flow_recover.proofs.StartFacts.{any_limit, start_before}
+use Rattle.elf_model.proofs.Elements.{contains_here, contains_later, map_contains}
+use Rattle.code_ranges.proofs.MarkFacts.{less}
+use Rattle.reloc_places.proofs.StartFacts.{any_limit, start_before}
 
 abbrev code_of : Section → ℕ
 code_of s = if is_code s then s.size else 0

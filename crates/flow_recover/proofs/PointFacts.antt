@@ -21,7 +21,7 @@ use Rattle.flow_recover.specs.declared.aims.Aim.TheVariants.{Near}
 use Rattle.flow_recover.specs.declared.flows.Exit.TheVariants as exit
 use Rattle.flow_recover.specs.declared.flows.Point.{Point}
 use Rattle.flow_recover.specs.declared.flows.PoolWord.{PoolWord}
-use Rattle.flow_recover.specs.Starts.{bytes_of, HasStart, decoded_at, instr_at, behind}
+use Rattle.reloc_places.specs.Starts.{bytes_of, HasStart, decoded_at, instr_at, behind}
 use Rattle.flow_recover.specs.Aims.{is_branch, has_offset, IsAim}
 use Rattle.flow_recover.specs.Reach.{IsFound, GoesOn, node_behind, node_at, Aims, LeadsOn, IsReached}
 use Rattle.flow_recover.specs.Reach.IsDeadEnd.{no_code}
@@ -36,11 +36,12 @@ use Rattle.flow_recover.specs.WholeFlows.{plain_exit, is_near, IsExit, IsNext, I
 use Rattle.flow_recover.specs.WholeFlows.{IsExit as exits}
 use Rattle.flow_recover.specs.WholeFlows.{IsNext as nexts}
 use Rattle.flow_recover.specs.WholeFlows.{IsLoaded as loads}
-use Rattle.flow_recover.specs.Charts.{AreStarts, AreNodes}
+use Rattle.flow_recover.specs.Charts.{AreNodes}
+use Rattle.reloc_places.specs.Tables.{AreStarts}
 use Rattle.flow_recover.specs.Settled.{IsFaultless, IsLoad, ArePlaces, ArePointsOf, word_at}
-use Rattle.flow_recover.proofs.Elements.{place_of}
+use Rattle.elf_model.proofs.Elements.{place_of}
 use Rattle.flow_recover.proofs.OneState.{one_instr}
-use Rattle.flow_recover.proofs.StartFacts.{start_or_none, any_limit, IsInside, start_inside, length_least}
+use Rattle.reloc_places.proofs.StartFacts.{start_or_none, any_limit, IsInside, start_inside, length_least}
 
 -- an instruction starts at a reached node
 pub reached_starts : (o : ObjectParts) (n : Node) → IsReached o n → HasStart o n.section n.offset

@@ -7,12 +7,12 @@ use Rattle.elf_model.specs.declared.refusals.Refusal.TheVariants.{RelocKind, Int
 use Rattle.elf_model.specs.declared.refusals.Spot.{Spot}
 use Rattle.elf_model.specs.Objects.{ObjectParts, is_object}
 use Rattle.flow_recover.specs.declared.references.Address.{Address}
-use Rattle.flow_recover.specs.Spots.{spot_of}
-use Rattle.flow_recover.specs.Relocations.{IsRight, value_of}
+use Rattle.code_ranges.specs.Spots.{spot_of}
+use Rattle.reloc_places.specs.Relocations.{IsRight, value_of}
 use Rattle.flow_recover.specs.Gains.{Gains, IsFrom}
 use Rattle.flow_recover.specs.NamedClaims.{IsAddress}
 use Rattle.flow_recover.specs.RelocFaults.{MakesArmAddress, IsWrongSpot, IsArmSpot, IsWrongReloc, IsArmAddress}
-use Rattle.flow_recover.proofs.Elements.{contains_at, place_of}
+use Rattle.elf_model.proofs.Elements.{contains_at, place_of}
 use Rattle.flow_recover.proofs.GainFacts.{gains_if, gains_none, gains_as}
 use Rattle.flow_recover.proofs.RightRelocs.{reloc_there}
 

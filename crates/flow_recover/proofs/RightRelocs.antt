@@ -11,14 +11,14 @@ use Rattle.elf_model.specs.declared.objects.Reloc.{Reloc}
 use Rattle.elf_model.specs.declared.objects.Home.{Home}
 use Rattle.elf_model.specs.declared.objects.Home.TheVariants as home
 use Rattle.elf_model.specs.Objects.{ObjectParts, is_object}
-use Rattle.flow_recover.specs.declared.charts.Placed.{Placed}
+use Rattle.reloc_places.specs.declared.relocations.Placed.{Placed}
 use Rattle.flow_recover.specs.declared.references.Address.{Address}
-use Rattle.flow_recover.specs.Relocations.{is_jump, IsRight, reloc_at, target_of}
+use Rattle.reloc_places.specs.Relocations.{is_jump, IsRight, reloc_at, target_of}
 use Rattle.flow_recover.specs.NamedClaims.{other_home, target_in, target_by, IsFarTarget}
-use Rattle.flow_recover.specs.Charts.{index_of, AreRelocs}
-use Rattle.flow_recover.proofs.ObjectFacts.{relocs_rise}
-use Rattle.flow_recover.proofs.RelocOrder.{rise_at, below_apart}
-use Rattle.flow_recover.proofs.RelocTable.{stands_there}
+use Rattle.reloc_places.specs.Tables.{index_of, AreRelocs}
+use Rattle.code_ranges.proofs.ObjectFacts.{relocs_rise}
+use Rattle.reloc_places.proofs.RelocOrder.{rise_at, below_apart}
+use Rattle.reloc_places.proofs.RelocTable.{stands_there}
 
 -- the first element that passes a test
 position_is : {X : Type 0} (t : X → Bool) (i : ℕ) (xs : List X) (k : ℕ) (x : X) → slice_get xs k ≡ Some x → t x ≡ true → ((n : ℕ) (y : X) → n < k → slice_get xs n ≡ Some y → t y ≡ false)

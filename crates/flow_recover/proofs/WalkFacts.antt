@@ -16,14 +16,15 @@ use Rattle.std.proofs.lemmas.Map.Views.{btree_set_contains_iff}
 use Rattle.elf_model.specs.Objects.{ObjectParts}
 use Rattle.flow_recover.specs.declared.named.Claim.{Claim}
 use Rattle.flow_recover.specs.declared.nodes.Node.{Node}
-use Rattle.flow_recover.specs.Starts.{HasStart}
+use Rattle.reloc_places.specs.Starts.{HasStart}
 use Rattle.flow_recover.specs.Reach.{node_at, LeadsOn, LeadsAway, IsReached}
 use Rattle.flow_recover.specs.Reach.IsReached.{named, led_on, led_away}
-use Rattle.flow_recover.specs.Charts.{AreNamed, AreNodes, AreStarts, node_cmp}
+use Rattle.flow_recover.specs.Charts.{AreNamed, AreNodes, node_cmp}
+use Rattle.reloc_places.specs.Tables.{AreStarts}
 use Rattle.flow_recover.specs.Walks.{IsSeed, AreSeeds, Leads, HasReached}
 use Rattle.flow_recover.specs.Gains.{Gains}
-use Rattle.flow_recover.proofs.Elements.{contains_cases, contains_here, contains_none, contains_at}
-use Rattle.flow_recover.proofs.StartFacts.{start_found}
+use Rattle.elf_model.proofs.Elements.{contains_cases, contains_here, contains_none, contains_at}
+use Rattle.reloc_places.proofs.StartFacts.{start_found}
 use Rattle.flow_recover.proofs.NodeOrder.{node_total, node_exact}
 
 contains_listed : {X : Type 0} (t : Option X) (x : X) → Contains (option_to_list t) x → t ≡ Some x

@@ -10,18 +10,18 @@ use Rattle.flow_recover.specs.declared.named.Claim.{Claim}
 use Rattle.flow_recover.specs.declared.nodes.Node.{Node}
 use Rattle.flow_recover.specs.declared.flows.Point.{Point}
 use Rattle.flow_recover.specs.declared.flows.PoolWord.{PoolWord}
-use Rattle.flow_recover.specs.declared.ranges.Range.{Range}
+use Rattle.code_ranges.specs.declared.ranges.Range.{Range}
 use Rattle.flow_recover.specs.Flows.{FlowParts}
-use Rattle.flow_recover.specs.CodeRanges.{comes_before, AreRanges}
-use Rattle.flow_recover.specs.Spans.{place_cmp}
-use Rattle.flow_recover.specs.Spots.{spot_of, IsFirst}
+use Rattle.code_ranges.specs.CodeRanges.{comes_before, AreRanges}
+use Rattle.code_ranges.specs.Spans.{place_cmp}
+use Rattle.code_ranges.specs.Spots.{spot_of, IsFirst}
 use Rattle.flow_recover.specs.Reach.{IsFound, node_at}
 use Rattle.flow_recover.specs.FlowFaults.{IsLaterRefusal}
 use Rattle.flow_recover.specs.WholeFlows.{IsPoint, IsPoolWord, IsEntry, place_of_node, place_of_word, IsFlow}
 use Rattle.flow_recover.specs.Charts.{AreNamed, AreNodes, AreFaults}
 use Rattle.flow_recover.specs.Settled.{IsFaultless, IsLoadedPlace, ArePlaces, ArePointsOf, word_at, AreEntries}
-use Rattle.flow_recover.proofs.Elements.{contains_map, contains_none, map_contains}
-use Rattle.flow_recover.proofs.StartFacts.{any_limit, code_within}
+use Rattle.elf_model.proofs.Elements.{contains_map, contains_none, map_contains}
+use Rattle.reloc_places.proofs.StartFacts.{any_limit, code_within}
 use Rattle.flow_recover.proofs.NodePlaces.{places_rise}
 use Rattle.flow_recover.proofs.OneState.{one_state}
 use Rattle.flow_recover.proofs.PointCount.{few_nodes}

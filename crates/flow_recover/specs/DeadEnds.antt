@@ -2,7 +2,7 @@
 use Rattle.std.specs.Prelude.{◌≡◌, ◌≤◌, ◌⊎◌, ℕ, ◌+◌, true}
 use Rattle.elf_model.specs.Fields.{half_at}
 use Rattle.elf_model.specs.Objects.{ObjectParts}
-use Rattle.flow_recover.specs.Starts.{bytes_of, IsCodeStart, HasStart, is_function_at, is_nop}
+use Rattle.reloc_places.specs.Starts.{bytes_of, IsCodeStart, HasStart, is_function_at, is_nop}
 
 -- a function begins there, or no code is there
 abbrev pub IsLimit : ObjectParts → ℕ → ℕ → Type 0

@@ -1,7 +1,7 @@
 -- Lists, and sets of places, that gain what has a property, in no order.
 use Rattle.std.specs.Prelude.{◌≡◌, ◌↔◌, ◌⊎◌, ℕ, Bool, true, List, Contains}
 use Rattle.std.specs.BTreeSet.{BTreeSet, contains}
-use Rattle.flow_recover.specs.Spans.{place_cmp}
+use Rattle.code_ranges.specs.Spans.{place_cmp}
 
 abbrev pub Gains : {X : Type 0} → (X → Type 0) → List X → List X → Type 0
 Gains {X} P old new = (x : X) → Contains new x ↔ (Contains old x ⊎ P x)

@@ -1,10 +1,4 @@
-pub mod CodeRanges
-pub mod Spans
-pub mod Spots
 pub mod Flows
-pub mod AllRanges
-pub mod Starts
-pub mod Relocations
 pub mod Aims
 pub mod Reach
 pub mod FlowFaults
@@ -12,7 +6,6 @@ pub mod WholeFlows
 pub mod Charts
 pub mod Settled
 pub mod DeadEnds
-pub mod Placement
 pub mod Walks
 pub mod Gains
 pub mod NamedClaims

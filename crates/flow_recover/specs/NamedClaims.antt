@@ -7,7 +7,8 @@ use Rattle.elf_model.specs.declared.objects.Home.TheVariants as home
 use Rattle.elf_model.specs.Objects.{ObjectParts, even}
 use Rattle.flow_recover.specs.declared.named.Claim.{Claim}
 use Rattle.flow_recover.specs.declared.references.Address.{Address}
-use Rattle.flow_recover.specs.Relocations.{is_jump, IsRight, holds_code, value_of, target_of}
+use Rattle.reloc_places.specs.Relocations.{is_jump, IsRight, value_of, target_of}
+use Rattle.code_ranges.specs.CodeRanges.{holds_code}
 use Rattle.flow_recover.specs.Aims.{is_entry, IsReference}
 
 -- the section of code that a symbol is defined in; one that is not the given one

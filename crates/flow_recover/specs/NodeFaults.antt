@@ -14,8 +14,8 @@ use Rattle.flow_recover.specs.declared.aims.Aim.TheVariants.{Near, Shared, Fixed
 use Rattle.flow_recover.specs.declared.blocks.Block.{Block}
 use Rattle.flow_recover.specs.declared.named.Claim.{Claim}
 use Rattle.flow_recover.specs.declared.nodes.Node.{Node}
-use Rattle.flow_recover.specs.Spots.{spot_of}
-use Rattle.flow_recover.specs.Starts.{bytes_of, HasStart, IsDataWord, behind, following}
+use Rattle.code_ranges.specs.Spots.{spot_of}
+use Rattle.reloc_places.specs.Starts.{bytes_of, HasStart, IsDataWord, behind, following}
 use Rattle.flow_recover.specs.Aims.{has_offset, IsAim}
 use Rattle.flow_recover.specs.Reach.{IsFound, may_fall, Aims}
 use Rattle.flow_recover.specs.FlowFaults.{block_length, literal_place, refusal_of, IsInBlock}

@@ -5,8 +5,8 @@ use Rattle.elf_model.specs.declared.objects.Reloc.{Reloc}
 use Rattle.elf_model.specs.declared.refusals.Refusal.TheVariants.{RelocKind, IntoMiddle}
 use Rattle.elf_model.specs.declared.refusals.Spot.{Spot}
 use Rattle.elf_model.specs.Objects.{ObjectParts}
-use Rattle.flow_recover.specs.Spots.{spot_of}
-use Rattle.flow_recover.specs.Relocations.{IsRight, value_of}
+use Rattle.code_ranges.specs.Spots.{spot_of}
+use Rattle.reloc_places.specs.Relocations.{IsRight, value_of}
 use Rattle.flow_recover.specs.Aims.{IsReference}
 
 -- a relocation that makes an address of code without bit 0

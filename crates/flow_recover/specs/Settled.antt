@@ -9,8 +9,8 @@ use Rattle.thumb_instr.specs.Fields.{LiteralFields}
 use Rattle.flow_recover.specs.declared.nodes.Node.{Node}
 use Rattle.flow_recover.specs.declared.flows.Point.{Point}
 use Rattle.flow_recover.specs.declared.flows.PoolWord.{PoolWord}
-use Rattle.flow_recover.specs.Spans.{place_cmp}
-use Rattle.flow_recover.specs.Relocations.{reloc_at}
+use Rattle.code_ranges.specs.Spans.{place_cmp}
+use Rattle.reloc_places.specs.Relocations.{reloc_at}
 use Rattle.flow_recover.specs.Reach.{IsFound, node_at, IsReached}
 use Rattle.flow_recover.specs.FlowFaults.{literal_place, FlowFault}
 use Rattle.flow_recover.specs.WholeFlows.{IsPoint}

@@ -5,7 +5,7 @@ use Rattle.thumb_instr.specs.declared.instructions.Instr.{Instr}
 use Rattle.flow_recover.specs.declared.nodes.Node.{Node}
 use Rattle.flow_recover.specs.declared.aims.Aim.{Aim}
 use Rattle.flow_recover.specs.declared.aims.Aim.TheVariants.{Near, Shared, Fixed, Far}
-use Rattle.flow_recover.specs.Starts.{HasStart}
+use Rattle.reloc_places.specs.Starts.{HasStart}
 use Rattle.flow_recover.specs.Aims.{IsAim, IsNamed}
 use Rattle.flow_recover.specs.Reach.{node_behind, node_at, LeadsOn, LeadsAway, IsReached}
 

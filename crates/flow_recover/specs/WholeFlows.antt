@@ -17,10 +17,10 @@ use Rattle.flow_recover.specs.declared.flows.Exit.{Exit}
 use Rattle.flow_recover.specs.declared.flows.Exit.TheVariants as exit
 use Rattle.flow_recover.specs.declared.flows.PoolWord.{PoolWord}
 use Rattle.flow_recover.specs.Flows.{FlowParts}
-use Rattle.flow_recover.specs.CodeRanges.{AreRanges}
-use Rattle.flow_recover.specs.Spans.{place_cmp}
-use Rattle.flow_recover.specs.Starts.{bytes_of}
-use Rattle.flow_recover.specs.Relocations.{reloc_at}
+use Rattle.code_ranges.specs.CodeRanges.{AreRanges}
+use Rattle.code_ranges.specs.Spans.{place_cmp}
+use Rattle.reloc_places.specs.Starts.{bytes_of}
+use Rattle.reloc_places.specs.Relocations.{reloc_at}
 use Rattle.flow_recover.specs.Aims.{is_branch, has_offset, IsAim, IsNamed}
 use Rattle.flow_recover.specs.Reach.{IsFound, GoesOn, node_behind, node_at, IsReached}
 use Rattle.flow_recover.specs.FlowFaults.{IsReachedInstr, literal_place, FlowFault}

@@ -4,7 +4,7 @@ ghost use Rattle.std.specs.Prelude.{◌≡◌, ◌↔◌, Some, IsTrue, slice_ge
 ghost use Rattle.elf_model.specs.Objects.{is_within};
 ghost use Rattle.elf_model.specs.declared.objects.Reloc.{Reloc};
 ghost use Rattle.elf_model.specs.declared.objects.Symbol.{Symbol};
-ghost use Rattle.flow_recover.specs.Relocations.{IsRight, target_of};
+ghost use Rattle.reloc_places.specs.Relocations.{IsRight, target_of};
 ghost use Rattle.flow_recover.specs.Aims.{is_branch as is_branch_of, has_offset as has_offset_of, offset_of, own_target, aim_at, IsAim};
 ghost use Rattle.flow_recover.specs.declared.aims.Aim.{Aim};
 ghost use Rattle.flow_recover.specs.Charts.{IsChart};
@@ -12,9 +12,12 @@ ghost use Rattle.flow_recover.specs.Walks.{offset_in};
 
 use crate::charts::Chart;
 use crate::nodes::Node;
-use crate::values::{LOCAL, target_of};
 use elf_model::{Home, Limit, Object, Symbol};
+use reloc_places::target_of;
 use thumb_instr::Instr;
+
+/// The binding of a symbol that no other object sees.
+pub(crate) const LOCAL: u8 = 0;
 
 /// Where a branch or a call leads.
 #[derive(Clone, Copy, Debug, PartialEq, Eq)]

@@ -3,23 +3,15 @@
 ghost use Rattle.std.specs.Prelude.{◌≡◌, IfOk, IsTrue};
 ghost use Rattle.std.specs.BTreeMap.{get};
 ghost use Rattle.elf_model.specs.Objects.{is_within};
-ghost use Rattle.flow_recover.specs.Spans.{place_cmp};
-ghost use Rattle.flow_recover.specs.CodeRanges.{AreRanges};
+ghost use Rattle.code_ranges.specs.Spans.{place_cmp};
+ghost use Rattle.code_ranges.specs.CodeRanges.{AreRanges};
 ghost use Rattle.flow_recover.specs.Charts.{IsChart};
 
-use crate::Range;
-use crate::relocations::relocs_by_place;
-use crate::starts::{code_starts, data_words, function_places};
+use code_ranges::Range;
 use elf_model::{Limit, Object};
+use reloc_places::{Placed, code_starts, data_words, function_places, relocs_by_place};
 use std::alloc::{AllocError, Global};
 use std::collections::{BTreeMap, BTreeSet};
-
-/// A relocation by its index in the object. `right` says that it may stand where it does.
-#[derive(Clone, Copy, Debug)]
-pub(crate) struct Placed {
-    pub(crate) index: u32,
-    pub(crate) right: bool,
-}
 
 /// By section and offset: instruction starts, with the end of their range; words of data in code
 /// sections; functions; and relocations.

@@ -4,16 +4,16 @@ ghost use Rattle.std.specs.Prelude.{◌≡◌, ◌≤◌, ◌+◌, ◌↔◌, Is
 ghost use Rattle.std.specs.BTreeSet.{contains};
 ghost use Rattle.elf_model.specs.Fields.{half_at};
 ghost use Rattle.elf_model.specs.Objects.{is_within};
-ghost use Rattle.flow_recover.specs.Spans.{place_cmp};
-ghost use Rattle.flow_recover.specs.Starts.{is_nop};
+ghost use Rattle.code_ranges.specs.Spans.{place_cmp};
+ghost use Rattle.reloc_places.specs.Starts.{is_nop};
 ghost use Rattle.flow_recover.specs.Reach.{IsDeadEnd};
 ghost use Rattle.flow_recover.specs.Charts.{IsChart};
 ghost use Rattle.flow_recover.specs.DeadEnds.{IsLimit, IsNopAt};
 
 use crate::charts::{Chart, end_at};
-use crate::instructions::bytes_of;
 use byteorder::{ByteOrder, LittleEndian};
 use elf_model::{Limit, Object};
+use reloc_places::bytes_of;
 
 /// NOP, and MOV r8, r8.
 fn is_nop(h: u16) -> bool

@@ -4,8 +4,8 @@ ghost use Rattle.std.specs.Prelude.{◌≡◌, ◌↔◌, ◌<◌, ◌^◌, Some
 ghost use Rattle.std.specs.BTreeMap.{get};
 ghost use Rattle.elf_model.specs.Objects.{is_within};
 ghost use Rattle.flow_recover.specs.declared.nodes.Node.{Node};
-ghost use Rattle.flow_recover.specs.Spans.{place_cmp};
-ghost use Rattle.flow_recover.specs.Starts.{behind};
+ghost use Rattle.code_ranges.specs.Spans.{place_cmp};
+ghost use Rattle.reloc_places.specs.Starts.{behind};
 ghost use Rattle.flow_recover.specs.Reach.{falls, is_call, may_fall as may_fall_of, IsDeadEnd, GoesOn, LeadsOn, LeadsAway};
 ghost use Rattle.flow_recover.specs.Charts.{IsChart};
 ghost use Rattle.flow_recover.specs.Walks.{IsStartBehind, IsStartAimed};
@@ -13,10 +13,10 @@ ghost use Rattle.flow_recover.specs.Walks.{IsStartBehind, IsStartAimed};
 use crate::aims::{aim_of, has_offset, offset_in};
 use crate::charts::Chart;
 use crate::dead_ends::is_dead_end;
-use crate::instructions::{behind, instr_of, state_behind};
-use crate::kinds::may_fail;
+use crate::instructions::{behind, instr_of};
 use crate::nodes::Node;
 use elf_model::{Limit, Object};
+use reloc_places::{may_fail, state_behind};
 use thumb_instr::{Instr, block_condition};
 
 /// Whether control may go on behind an instruction that is no call, where its IT condition holds.

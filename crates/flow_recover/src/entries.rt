@@ -3,7 +3,7 @@
 ghost use Rattle.std.specs.Prelude.{◌≡◌, ◌↔◌, ℕ, true, Some, IfOk, OnOk, IsTrue};
 ghost use Rattle.std.specs.BTreeSet.{contains};
 ghost use Rattle.elf_model.specs.Objects.{is_within};
-ghost use Rattle.flow_recover.specs.Spans.{place_cmp};
+ghost use Rattle.code_ranges.specs.Spans.{place_cmp};
 ghost use Rattle.flow_recover.specs.WholeFlows.{IsEntry};
 ghost use Rattle.flow_recover.specs.Charts.{IsChart, AreNamed, AreNodes};
 ghost use Rattle.flow_recover.specs.Gains.{PlacesGain, IsFrom};

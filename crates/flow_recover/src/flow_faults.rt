@@ -2,8 +2,8 @@
 
 ghost use Rattle.std.specs.Prelude.{◌≡◌, ◌↔◌, ◌<◌, ◌^◌, ℕ, true, IfOk, OnOk, IsTrue};
 ghost use Rattle.elf_model.specs.Objects.{is_within};
-ghost use Rattle.flow_recover.specs.Spots.{spot_of as spot_at};
-ghost use Rattle.flow_recover.specs.Starts.{HasStart};
+ghost use Rattle.code_ranges.specs.Spots.{spot_of as spot_at};
+ghost use Rattle.reloc_places.specs.Starts.{HasStart};
 ghost use Rattle.flow_recover.specs.FlowFaults.{refusal_of as refusal_of_bad, IsInBlock};
 ghost use Rattle.flow_recover.specs.Gains.{Gains, has_place, IsFrom};
 ghost use Rattle.flow_recover.specs.Charts.{IsChart, AreNamed, AreNodes, AreFaults};
@@ -14,12 +14,12 @@ use crate::blocks::{block_places, is_cut};
 use crate::charts::Chart;
 use crate::claims::all_claims;
 use crate::edges::may_fall;
-use crate::faults::spot_of;
 use crate::instructions::{behind, found, instr_of};
 use crate::literals::literal_place;
 use crate::named::Claim;
 use crate::nodes::Node;
 use crate::reloc_faults::{push_arm_addresses, push_wrong_relocs};
+use code_ranges::spot_of;
 use elf_model::{Limit, Object, Refusal, Spot};
 use std::alloc::{AllocError, Global};
 use std::collections::BTreeSet;

@@ -1,21 +1,12 @@
-//! Laws of ranges and flows. The functions do nothing: their contracts are the laws.
+//! Laws of flows. The function does nothing: its contract is the laws.
 
-ghost use Rattle.std.specs.Prelude.{◌≡◌, List};
+ghost use Rattle.std.specs.Prelude.{◌≡◌};
 ghost use Rattle.elf_model.specs.Objects.{ObjectParts};
 ghost use Rattle.elf_model.specs.declared.refusals.Deny.TheVariants.{Refused};
 ghost use Rattle.elf_model.specs.declared.refusals.Spot.{Spot};
-ghost use Rattle.flow_recover.specs.declared.ranges.Range.{Range};
-ghost use Rattle.flow_recover.specs.CodeRanges.{AreRanges, IsRangeDenial};
 ghost use Rattle.flow_recover.specs.Flows.{FlowParts};
 ghost use Rattle.flow_recover.specs.FlowFaults.{IsFlowDenial};
 ghost use Rattle.flow_recover.specs.WholeFlows.{IsFlow};
-
-/// An object has one list of ranges at most, or is refused them for one reason.
-pub fn objects_have_one_list_of_ranges()
-    ensures one { (o : ObjectParts) (r s : List Range) → AreRanges o r → AreRanges o s → r ≡ s }
-    ensures refused { (o : ObjectParts) (s t : Spot) → IsRangeDenial o (Refused s) → IsRangeDenial o (Refused t) → s ≡ t }
-    ensures apart { (o : ObjectParts) (r : List Range) (s : Spot) → AreRanges o r → ¬ IsRangeDenial o (Refused s) }
-{}
 
 /// An object has one flow at most, or is refused one for one reason.
 pub fn objects_have_one_flow()

@@ -1,7 +1,6 @@
-//! The flow of an object's code: the ranges of code and data, and the instructions that control reaches.
+//! The flow of an object's code: the instructions that control reaches, and how it goes on from each.
 #![tactic(auto)]
 
-mod addends;
 mod aims;
 mod blocks;
 mod charts;
@@ -9,40 +8,24 @@ mod claims;
 mod dead_ends;
 mod edges;
 mod entries;
-mod faults;
 mod flow_faults;
 mod flows;
 mod indexes;
 mod instructions;
-mod kinds;
 mod laws;
 mod literals;
 mod named;
 mod nodes;
 mod points;
-mod ranges;
 mod reach;
 mod recovery;
 mod references;
 mod reloc_faults;
-mod reloc_places;
-mod relocations;
-mod spans;
-mod starts;
-mod values;
 
-pub use faults::first_of;
+pub use code_ranges::{
+    Range, Span, all_ranges, code_ranges, first_of, objects_have_one_list_of_ranges,
+};
 pub use flows::{Exit, Flow, Point, PoolWord};
-pub use instructions::{decode_at, length_at, state_behind};
-pub use kinds::may_fail;
-pub use laws::{objects_have_one_flow, objects_have_one_list_of_ranges};
-pub use ranges::{Range, all_ranges, code_ranges};
+pub use laws::objects_have_one_flow;
 pub use recovery::recover;
-pub use spans::Span;
-
-#[cfg(test)]
-mod made;
-#[cfg(test)]
-mod recovery_tests;
-#[cfg(test)]
-mod tests;
+pub use reloc_places::{decode_at, length_at, may_fail, state_behind};

@@ -3,9 +3,9 @@
 ghost use Rattle.std.specs.Prelude.{◌≡◌, ◌↔◌, ◌≤◌, ◌^◌, ℕ, Some, true, map, length, ◌+◌, IfOk, OnOk, IsTrue};
 ghost use Rattle.std.specs.BTreeSet.{contains, btree_set_len, IsOrdered};
 ghost use Rattle.elf_model.specs.Objects.{ObjectParts, is_within};
-ghost use Rattle.flow_recover.specs.Spans.{place_cmp};
+ghost use Rattle.code_ranges.specs.Spans.{place_cmp};
 ghost use Rattle.flow_recover.specs.FlowFaults.{literal_place as literal_place_of};
-ghost use Rattle.flow_recover.specs.Relocations.{reloc_at};
+ghost use Rattle.reloc_places.specs.Relocations.{reloc_at};
 ghost use Rattle.flow_recover.specs.Charts.{IsChart, AreNodes};
 ghost use Rattle.flow_recover.specs.Gains.{PlacesGain};
 ghost use Rattle.flow_recover.specs.Settled.{IsNamedBy, IsLoad, IsLoadedPlace, ArePlaces, word_at};

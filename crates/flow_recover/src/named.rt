@@ -2,14 +2,17 @@
 
 ghost use Rattle.std.specs.Prelude.{◌≡◌, ℕ, Some, slice_get, IfOk, OnOk, IsTrue};
 ghost use Rattle.elf_model.specs.Objects.{is_within};
+ghost use Rattle.flow_recover.specs.Aims.{is_entry as is_entry_symbol};
 ghost use Rattle.flow_recover.specs.Gains.{Gains, IsFrom};
 ghost use Rattle.flow_recover.specs.NamedClaims.{entry_claim as entry_claim_of, IsEntryClaim, IsAddressClaim, IsBranchClaim};
 ghost use Rattle.flow_recover.specs.Charts.{IsChart, AreNamed};
 
+use crate::aims::LOCAL;
 use crate::charts::Chart;
 use crate::references::{code_home, far_target_of, reference_of};
-use crate::values::{even, is_entry};
+use code_ranges::FUNC;
 use elf_model::{Limit, Object, Reloc, Symbol};
+use reloc_places::even;
 use std::alloc::{AllocError, Global};
 
 /// A place that control is sent to, and the place that sends it there.
@@ -19,6 +22,13 @@ pub(crate) struct Claim {
     pub(crate) offset: u32,
     pub(crate) from_section: u32,
     pub(crate) from_offset: u32,
+}
+
+/// A function, or a symbol that other objects see.
+fn is_entry(s: &Symbol) -> bool
+    ensures { result ≡ is_entry_symbol s.now }
+{
+    s.kind == FUNC || s.bind != LOCAL
 }
 
 /// What a symbol names, which is its own place, if it is an entry.

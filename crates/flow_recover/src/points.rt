@@ -11,11 +11,12 @@ use crate::aims::{Aim, aim_of, is_branch};
 use crate::charts::Chart;
 use crate::edges::next_of;
 use crate::indexes::{node_index, place_index};
-use crate::instructions::{bytes_of, found, length_at};
+use crate::instructions::found;
 use crate::literals::{literal_place, reloc_of};
 use crate::nodes::Node;
 use crate::{Exit, Point};
 use elf_model::{Limit, Object};
+use reloc_places::{bytes_of, length_at};
 use std::alloc::{AllocError, Global};
 use thumb_instr::{Instr, block_condition};
 

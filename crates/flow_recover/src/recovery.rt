@@ -3,8 +3,8 @@
 ghost use Rattle.std.specs.Prelude.{◌≡◌, ◌↔◌, ◌<◌, ◌^◌, true, length, IfOk, IfErr, IsTrue};
 ghost use Rattle.std.specs.BTreeSet.{contains};
 ghost use Rattle.elf_model.specs.Objects.{is_within};
-ghost use Rattle.flow_recover.specs.CodeRanges.{AreRanges};
-ghost use Rattle.flow_recover.specs.Spans.{place_cmp};
+ghost use Rattle.code_ranges.specs.CodeRanges.{AreRanges};
+ghost use Rattle.code_ranges.specs.Spans.{place_cmp};
 ghost use Rattle.flow_recover.specs.FlowFaults.{IsFlowDenial};
 ghost use Rattle.flow_recover.specs.WholeFlows.{IsFlow};
 ghost use Rattle.flow_recover.specs.Charts.{IsChart, AreNamed, AreNodes};
@@ -12,14 +12,13 @@ ghost use Rattle.flow_recover.specs.Settled.{IsFaultless, IsAmong, AreEntries};
 
 use crate::charts::{Chart, chart_of};
 use crate::entries::entry_places;
-use crate::faults::first_of;
 use crate::flow_faults::flow_spots;
 use crate::literals::{word_places, words_at};
 use crate::named::{Claim, named_places};
 use crate::nodes::Node;
 use crate::points::points_of;
 use crate::reach::reached_nodes;
-use crate::{Flow, Range, code_ranges};
+use crate::{Flow, Range, code_ranges, first_of};
 use elf_model::{Deny, Limit, Object};
 use std::alloc::{AllocError, Global};
 use std::collections::BTreeSet;

@@ -3,14 +3,13 @@
 ghost use Rattle.std.specs.Prelude.{◌≡◌, ◌↔◌, ◌||◌, ℕ, Some, slice_get, IsTrue};
 ghost use Rattle.elf_model.specs.Objects.{is_within};
 ghost use Rattle.flow_recover.specs.declared.references.Address.{Address};
-ghost use Rattle.flow_recover.specs.Relocations.{is_word as is_word_kind, is_half as is_half_kind, IsRight};
+ghost use Rattle.reloc_places.specs.Relocations.{is_word as is_word_kind, is_half as is_half_kind, IsRight};
 ghost use Rattle.flow_recover.specs.NamedClaims.{code_home as code_home_of, other_home as other_home_of, address_by as address_of, target_by as target_at, IsAddress, IsFarTarget};
 ghost use Rattle.flow_recover.specs.Charts.{IsChart};
 
 use crate::charts::Chart;
-use crate::kinds::{is_half, is_jump, is_word};
-use crate::values::{target_of, value_of};
 use elf_model::{Home, Limit, Object, Reloc, is_code};
+use reloc_places::{is_half, is_jump, is_word, target_of, value_of};
 
 /// A number that is counted from the beginning of a section.
 #[derive(Clone, Copy, Debug)]

@@ -7,8 +7,8 @@ ghost use Rattle.flow_recover.specs.Gains.{Gains};
 ghost use Rattle.flow_recover.specs.Charts.{IsChart};
 
 use crate::charts::Chart;
-use crate::faults::spot_of;
 use crate::references::{is_right, reference_of};
+use code_ranges::spot_of;
 use elf_model::{Limit, Object, Refusal, Reloc, Spot};
 use std::alloc::AllocError;
 

@@ -3,7 +3,7 @@ use Rattle.std.proofs.Common.{◌≡◌, ◌<◌, ◌≤◌, ◌⊎◌, inl, inr
 use Rattle.elf_model.specs.declared.ranges.RangeKind.TheVariants.{Code}
 use Rattle.elf_model.specs.Objects.{ObjectParts}
 use Rattle.elf_model.specs.Ranges.{IsRange}
-use Rattle.flow_recover.specs.declared.spans.Span.{Span}
+use Rattle.code_ranges.specs.declared.spans.Span.{Span}
 use Rattle.guard_cli.specs.Listings.{Listed, text_of_lines}
 use Rattle.guard_cli.specs.Listings.Listed.{ended}
 use Rattle.guard_cli.specs.ListingSteps.{LeadsTo, IsThrough, IsAcross, AreAhead, AreApart, ListsContents}

@@ -15,7 +15,7 @@ use Rattle.thumb_table.specs.Images.{IsImage, CanLink, data_bytes_of}
 use Rattle.skip_machine.specs.Machines.{CanRun}
 use Rattle.flat_link.specs.Refusals.{LinkFault, StandsBefore}
 use Rattle.flat_link.specs.Refusals.LinkFault.{defined_twice, long_code, long_data, high_end}
-use Rattle.flat_link.proofs.Elements.{contains_cases, contains_here, contains_later, contains_none}
+use Rattle.elf_model.proofs.Elements.{contains_cases, contains_here, contains_later, contains_none}
 
 -- the first of rising numbers is below the others
 first_below : (x : ℕ) (xs : List ℕ) (y : ℕ) → IsStrictlyIncreasing (x ∷ xs) → Contains xs y → x < y

@@ -8,13 +8,13 @@ use Rattle.elf_model.specs.declared.ranges.RangeKind.{RangeKind}
 use Rattle.elf_model.specs.declared.ranges.RangeKind.TheVariants.{Code, Arm, Data}
 use Rattle.elf_model.specs.Objects.{ObjectParts, is_object, is_code}
 use Rattle.elf_model.specs.Ranges.{IsRange}
-use Rattle.flow_recover.specs.declared.ranges.Range.{Range}
-use Rattle.flow_recover.specs.declared.spans.Span.{Span}
-use Rattle.flow_recover.specs.AllRanges.{AreAllRanges}
-use Rattle.flow_recover.specs.CodeRanges.{is_below, rise}
-use Rattle.flow_recover.specs.Spans.{is_thumb, range_of}
-use Rattle.flow_recover.proofs.Elements.{contains_cases, contains_here, contains_later, contains_none}
-use Rattle.flow_recover.proofs.RangeOrder.{range_ends, range_end_same, range_inside, code_length, section_sound}
+use Rattle.code_ranges.specs.declared.ranges.Range.{Range}
+use Rattle.code_ranges.specs.declared.spans.Span.{Span}
+use Rattle.code_ranges.specs.AllRanges.{AreAllRanges}
+use Rattle.code_ranges.specs.CodeRanges.{is_below, rise}
+use Rattle.code_ranges.specs.Spans.{is_thumb, range_of}
+use Rattle.elf_model.proofs.Elements.{contains_cases, contains_here, contains_later, contains_none}
+use Rattle.code_ranges.proofs.RangeOrder.{range_ends, range_end_same, range_inside, code_length, section_sound}
 use Rattle.guard_cli.specs.Listings.{IsInCode, Listed, AreListed, heading, text_of_lines, IsListing}
 use Rattle.guard_cli.specs.Listings.AreListed.{none, code, other}
 use Rattle.guard_cli.specs.ListingSteps.{IsGap, AreAhead, AreApart, ListsContents, is_code_of, ListsSection, ListsBefore}

@@ -5,8 +5,8 @@ use Rattle.elf_model.specs.declared.ranges.RangeKind.{RangeKind}
 use Rattle.elf_model.specs.declared.ranges.RangeKind.TheVariants.{Code}
 use Rattle.elf_model.specs.Objects.{ObjectParts}
 use Rattle.elf_model.specs.Ranges.{IsRange, IsStart}
-use Rattle.flow_recover.specs.declared.spans.Span.{Span}
-use Rattle.flow_recover.specs.Spans.{is_thumb}
+use Rattle.code_ranges.specs.declared.spans.Span.{Span}
+use Rattle.code_ranges.specs.Spans.{is_thumb}
 use Rattle.guard_cli.specs.Listings.{IsInCode, Listed, AreListed, text_of_lines}
 
 -- The lines that were added lead from an offset and an IT state to others.

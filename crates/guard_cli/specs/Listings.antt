@@ -10,8 +10,8 @@ use Rattle.elf_model.specs.Ranges.{IsRange, is_long, length_at}
 use Rattle.thumb_instr.specs.declared.instructions.Instr.{Instr}
 use Rattle.thumb_instr.specs.declared.refusals.BadInstr.{BadInstr}
 use Rattle.thumb_instr.specs.Blocks.{it_after}
-pub use Rattle.flow_recover.specs.Starts.{IsCodeStart, second_half, decoded_at}
-pub use Rattle.flow_recover.specs.Reach.{it_behind}
+pub use Rattle.reloc_places.specs.Starts.{IsCodeStart, second_half, decoded_at}
+pub use Rattle.reloc_places.specs.Starts.{it_behind}
 use Rattle.thumb_text.specs.Pieces.{hex_word}
 use Rattle.thumb_text.specs.Listing.{line_of}
 

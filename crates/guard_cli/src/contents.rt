@@ -8,7 +8,8 @@ ghost use Rattle.guard_cli.specs.Listings.{IsCodeStart, short_lines, text_of_lin
 ghost use Rattle.guard_cli.specs.ListingSteps.{LeadsTo, IsStep, IsThrough, IsAcross, AreAhead, AreApart, ListsContents};
 
 use crate::lines::{push_byte_line, push_instr_line, push_short_line, push_word_line};
-use flow_recover::{Span, decode_at, length_at, state_behind};
+use code_ranges::Span;
+use reloc_places::{decode_at, length_at, state_behind};
 use std::alloc::AllocError;
 use thumb_instr::it_after;
 

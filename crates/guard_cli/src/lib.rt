@@ -1,8 +1,6 @@
 //! The commands of `skipguard`, from their words to what they save and print.
 #![tactic(auto)]
 
-#[cfg(test)]
-mod command_tests;
 mod commands;
 mod contents;
 mod decisions;
@@ -14,8 +12,6 @@ mod lines;
 mod linkable;
 mod linking;
 mod list;
-#[cfg(test)]
-mod list_tests;
 mod listings;
 mod loading;
 mod numbers;
@@ -23,11 +19,7 @@ mod options;
 mod plans;
 mod running;
 mod settings;
-#[cfg(test)]
-mod tests;
 mod texts;
-#[cfg(test)]
-mod word_tests;
 mod words;
 
 ghost use Rattle.std.specs.Prelude.{◌≡◌, ◌≢◌, ◌↔◌, ◌+◌, List, [], ◌∷◌, ℕ, map, Some, IsTrue, IsSome, string_bytes};

@@ -1,13 +1,13 @@
 //! The listing of an object's code sections.
 
 ghost use Rattle.std.specs.Prelude.{◌≡◌, ◌++◌, ◌∷◌, [], OnOk, IfOk, Some, filter, slice_get};
-ghost use Rattle.flow_recover.specs.AllRanges.{AreAllRanges};
+ghost use Rattle.code_ranges.specs.AllRanges.{AreAllRanges};
 ghost use Rattle.guard_cli.specs.Listings.{heading, text_of_lines, IsListing};
 ghost use Rattle.guard_cli.specs.ListingSteps.{is_code_of, ListsSection};
 
 use crate::contents::push_contents;
 use elf_model::{Object, RangeKind, Section, is_code};
-use flow_recover::{Span, all_ranges};
+use code_ranges::{Span, all_ranges};
 use std::alloc::{AllocError, Global};
 
 /// The code ranges of a section.

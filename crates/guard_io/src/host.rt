@@ -16,14 +16,10 @@ use std::rt::Files;
 
 /// An error outside the program.
 #[derive(Drop)]
-pub(crate) struct Fault;
+struct Fault;
 
 /// Reads the first bytes, at most so many, in as many pieces as it takes.
-pub(crate) fn read_front<S: Read>(
-    source: &mut S,
-    alloc: Global,
-    most: usize,
-) -> Result<Vec<u8>, LoadErr>
+fn read_front<S: Read>(source: &mut S, alloc: Global, most: usize) -> Result<Vec<u8>, LoadErr>
     ensures most { IfOk result (λ bytes. vec_len bytes ≤ most) }
     ensures bytes { IfOk result (λ bytes. AreFirstLeft (S.remaining source.old) most bytes.items) }
 {
@@ -45,7 +41,7 @@ pub(crate) fn read_front<S: Read>(
 }
 
 /// Writes all the bytes, in as many pieces as it takes.
-pub(crate) fn write_whole<W: Write>(out: &mut W, bytes: &[u8]) -> Result<(), Fault>
+fn write_whole<W: Write>(out: &mut W, bytes: &[u8]) -> Result<(), Fault>
     ensures ok { OnOk result (Appends (W.contents out.old) (W.contents out.new) bytes.now) }
     ensures err { OnErr result (AppendsPart (W.contents out.old) (W.contents out.new) bytes.now) }
 {

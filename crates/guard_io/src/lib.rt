@@ -8,8 +8,6 @@ mod mem_shelf;
 mod mem_sink;
 mod shelf;
 mod sink;
-#[cfg(test)]
-mod tests;
 
 pub use errors::{LoadErr, PutErr, SaveErr};
 pub use host::{HostShelf, HostSink};

@@ -2,7 +2,7 @@
 use Rattle.std.proofs.Common.{◌≡◌, List, [], ◌∷◌, ◌++◌, refl, sym, ap, ◌∙◌, subst, inl, inr, Option, Some, None}
 use Rattle.std.specs.Prelude.{Contains}
 use Rattle.std.specs.Option.{option_to_list}
-pub use Rattle.flow_recover.proofs.Elements.{contains_cases, contains_here, contains_later, contains_none, place_of, contains_at}
+pub use Rattle.elf_model.proofs.Elements.{contains_cases, contains_here, contains_later, contains_none, place_of, contains_at}
 use Rattle.liveness.specs.Spots.{picked}
 
 pub picked_is : {X Y : Type 0} (f : X → Option Y) (xs : List X) (y : Y) → Contains (picked f xs) y → (x : X) × Contains xs x × (f x ≡ Some y)

@@ -13,8 +13,8 @@ use Rattle.flow_recover.specs.declared.flows.Point.{Point}
 use Rattle.flow_recover.specs.declared.flows.Exit.{Exit}
 use Rattle.flow_recover.specs.declared.flows.Exit.TheVariants.{Falls, Branch, Transfer, Call, Return, Stops}
 use Rattle.flow_recover.specs.Flows.{FlowParts}
-use Rattle.flow_recover.specs.CodeRanges.{comes_before}
-use Rattle.flow_recover.specs.Spots.{spot_of, IsFirst}
+use Rattle.code_ranges.specs.CodeRanges.{comes_before}
+use Rattle.code_ranges.specs.Spots.{spot_of, IsFirst}
 use Rattle.liveness.specs.declared.boundary.Boundary.{Boundary}
 use Rattle.liveness.specs.Paths.{IsLiveBefore, IsLiveAfter, leaves, boundary_of}
 use Rattle.liveness.specs.Paths.IsLiveAfter.{at_boundary, before_next}

@@ -16,9 +16,10 @@ use Rattle.thumb_instr.specs.Operands.{has}
 use Rattle.flow_recover.specs.declared.flows.Point.{Point}
 use Rattle.flow_recover.specs.Flows.{FlowParts}
 use Rattle.flow_recover.specs.WholeFlows.{IsFlow}
-use Rattle.flow_recover.proofs.InOrder.{same_at_each}
-use Rattle.flow_recover.proofs.OneFlow.{point_once_at, same_fields}
-use Rattle.flow_recover.proofs.SpotFacts.{tied_section, tied_offset, tied_number}
+use Rattle.code_ranges.proofs.InOrder.{same_at_each}
+use Rattle.flow_recover.proofs.OneFlow.{point_once_at}
+use Rattle.code_ranges.proofs.OneRanges.{same_fields}
+use Rattle.code_ranges.proofs.SpotFacts.{tied_section, tied_offset, tied_number}
 use Rattle.liveness.specs.declared.boundary.Boundary.{Boundary}
 use Rattle.liveness.specs.Sets.{LiveParts, has_in, holds_at}
 use Rattle.liveness.specs.Faults.{is_unset_at_entry, is_lost_in_call, IsLowestLive, LiveFault, IsLiveRefusal, AreLive}

@@ -3,7 +3,7 @@ use Rattle.std.proofs.Common.{◌≤◌, ◌^◌, length, arith, IsTrue}
 use Rattle.elf_model.specs.Objects.{ObjectParts, is_within, code_size}
 use Rattle.flow_recover.specs.Flows.{FlowParts}
 use Rattle.flow_recover.specs.WholeFlows.{IsFlow}
-use Rattle.flow_recover.proofs.StartFacts.{any_limit, code_within}
+use Rattle.reloc_places.proofs.StartFacts.{any_limit, code_within}
 use Rattle.flow_recover.proofs.FlowEdges.{edge_within, entries_within}
 use Rattle.liveness.specs.Paths.{NamesPoints}
 

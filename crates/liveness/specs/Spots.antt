@@ -9,7 +9,7 @@ use Rattle.flow_recover.specs.declared.flows.Point.{Point}
 use Rattle.flow_recover.specs.declared.flows.Exit.{Exit}
 use Rattle.flow_recover.specs.declared.flows.Exit.TheVariants.{Falls, Branch, Transfer, Call, Return, Stops}
 use Rattle.flow_recover.specs.Flows.{FlowParts}
-use Rattle.flow_recover.specs.Spots.{spot_of}
+use Rattle.code_ranges.specs.Spots.{spot_of}
 
 -- r12 and the flags; and with lr
 abbrev pub unset : List ℕ

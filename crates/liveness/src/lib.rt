@@ -14,6 +14,3 @@ pub use boundary::Boundary;
 pub use laws::{points_have_one_live_set, recovered_flows_name_points};
 pub use liveness::live;
 pub use sets::Live;
-
-#[cfg(test)]
-mod tests;

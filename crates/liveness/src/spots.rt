@@ -2,7 +2,7 @@
 
 ghost use Rattle.std.specs.Prelude.{◌≡◌, ◌<◌, ◌++◌, IfOk, OnOk, All, Contains, length, slice_get, Some, ℕ};
 ghost use Rattle.elf_model.specs.declared.refusals.Refusal.{Refusal};
-ghost use Rattle.flow_recover.specs.Spots.{spot_of};
+ghost use Rattle.code_ranges.specs.Spots.{spot_of};
 ghost use Rattle.liveness.specs.Paths.{NamesPoints};
 ghost use Rattle.liveness.specs.Spots.{first_member, entry_spot, is_call, first_after, spot_at_call, call_spot, picked, all_spots};
 

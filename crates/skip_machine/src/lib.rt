@@ -6,8 +6,6 @@ mod legal;
 mod machines;
 mod moves;
 mod plans;
-#[cfg(test)]
-mod tests;
 mod texts;
 
 pub use machines::{Machine, Moved, Outcome};

@@ -7,8 +7,6 @@ ghost use Rattle.thumb_instr.specs.Rows.{is_wide, decode_given};
 mod branches;
 mod control;
 mod data_processing;
-#[cfg(test)]
-mod full_tests;
 mod fulls;
 mod half_accesses;
 mod half_arithmetic;
@@ -21,8 +19,6 @@ mod memory;
 mod multiple;
 mod products;
 mod registers;
-#[cfg(test)]
-mod tests;
 mod wide_fields;
 
 use fulls::decode_full;

@@ -5,8 +5,6 @@ mod codes;
 mod encoding;
 mod full_candidates;
 mod half_candidates;
-#[cfg(test)]
-mod tests;
 
 pub use codes::{Code, Width};
 pub use encoding::encode;

@@ -8,8 +8,6 @@ mod bit_fields;
 mod bit_values;
 mod branches;
 mod cores;
-#[cfg(test)]
-mod effect_tests;
 mod effects;
 mod faults;
 mod fetches;
@@ -19,8 +17,6 @@ mod jumps;
 mod literals;
 mod marks;
 mod memory;
-#[cfg(test)]
-mod memory_tests;
 mod multiple;
 mod operands;
 mod ordinary;
@@ -30,8 +26,6 @@ mod placements;
 mod product_values;
 mod products;
 mod proper;
-#[cfg(test)]
-mod tests;
 mod values;
 mod writes;
 

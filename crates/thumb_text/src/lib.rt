@@ -11,8 +11,6 @@ mod names;
 mod operands;
 mod pieces;
 mod products;
-#[cfg(test)]
-mod tests;
 
 pub use line::Line;
 pub use listing::list_line;

@@ -1,5 +1,5 @@
 use Rattle.std.specs.BTreeMap.{get}
-use Rattle.flow_recover.specs.Spans.{place_cmp}
+use Rattle.code_ranges.specs.Spans.{place_cmp}
 use Rattle.flow_recover.proofs.AimFacts.{placed_right, aim_by_symbol, aim_far}
 use Rattle.flow_recover.proofs.aims.aim_of.Goals as goal
 

@@ -3,7 +3,7 @@ use Rattle.std.proofs.lemmas.Option.{same_Some}
 use Rattle.elf_model.specs.declared.objects.Reloc.{Reloc}
 use Rattle.elf_model.specs.declared.objects.RelocKind.TheVariants.{Abs32}
 use Rattle.elf_model.specs.declared.objects.Symbol.{Symbol}
-use Rattle.flow_recover.specs.Relocations.{IsRight}
+use Rattle.reloc_places.specs.Relocations.{IsRight}
 use Rattle.flow_recover.proofs.AimFacts.{symbol_below, read_reloc, read_symbol, read_aim}
 use Rattle.flow_recover.proofs.aims.symbol_aim.Goals as goal
 

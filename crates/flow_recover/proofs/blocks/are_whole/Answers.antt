@@ -1,5 +1,5 @@
 use Rattle.std.proofs.Common.{refl, ap, ◌+◌}
-use Rattle.flow_recover.proofs.StartFacts.{length_most}
+use Rattle.reloc_places.proofs.StartFacts.{length_most}
 use Rattle.flow_recover.proofs.BlockFacts.{whole_none, whole_more, whole_all}
 use Rattle.flow_recover.proofs.blocks.are_whole.Goals as goal
 

@@ -1,5 +1,5 @@
 use Rattle.std.proofs.Common.{sym, refl}
-use Rattle.flow_recover.specs.Starts.{bytes_of, IsCodeStart}
+use Rattle.reloc_places.specs.Starts.{bytes_of, IsCodeStart}
 use Rattle.flow_recover.proofs.AnswerFacts.{same_option}
 use Rattle.flow_recover.proofs.BlockFacts.{no_instr_block, no_mask_block, no_end_block, this_block}
 use Rattle.flow_recover.proofs.blocks.block_at.Goals as goal

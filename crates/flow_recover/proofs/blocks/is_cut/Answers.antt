@@ -1,7 +1,7 @@
 use Rattle.std.proofs.Common.{◌∙◌, ap, List, ℕ}
 use Rattle.std.specs.List.{list_all}
 use Rattle.elf_model.specs.Ranges.{is_whole}
-use Rattle.flow_recover.specs.Starts.{following}
+use Rattle.reloc_places.specs.Starts.{following}
 use Rattle.flow_recover.proofs.BlockFacts.{none_cut, block_cut}
 use Rattle.flow_recover.proofs.blocks.is_cut.Goals as goal
 

@@ -1,5 +1,5 @@
 use Rattle.std.proofs.Common.{ap, ◌+◌}
-use Rattle.flow_recover.proofs.StartFacts.{length_most}
+use Rattle.reloc_places.proofs.StartFacts.{length_most}
 use Rattle.flow_recover.proofs.BlockFacts.{noted_more}
 use Rattle.flow_recover.proofs.blocks.note_members.Goals as goal
 

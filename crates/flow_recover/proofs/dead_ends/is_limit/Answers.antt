@@ -1,7 +1,7 @@
 use Rattle.std.proofs.Common.{sym, ◌∙◌}
 use Rattle.std.specs.BTreeMap.{get}
 use Rattle.std.specs.BTreeSet.{contains}
-use Rattle.flow_recover.specs.Spans.{place_cmp}
+use Rattle.code_ranges.specs.Spans.{place_cmp}
 use Rattle.flow_recover.proofs.DeadEndFacts.{no_start_limit, start_limit}
 use Rattle.flow_recover.proofs.dead_ends.is_limit.Goals as goal
 

@@ -1,8 +1,8 @@
 use Rattle.std.proofs.Common.{sym, ◌∙◌, arith, ap, length}
 use Rattle.std.specs.BTreeMap.{get}
 use Rattle.std.proofs.lemmas.Bool.Decides.{nat_tests}
-use Rattle.flow_recover.specs.Spans.{place_cmp}
-use Rattle.flow_recover.proofs.StartFacts.{start_inside}
+use Rattle.code_ranges.specs.Spans.{place_cmp}
+use Rattle.reloc_places.proofs.StartFacts.{start_inside}
 use Rattle.flow_recover.proofs.DeadEndFacts.{no_start_nop, cut_nop, whole_nop}
 use Rattle.flow_recover.proofs.dead_ends.is_nop_at.Goals as goal
 

@@ -1,5 +1,5 @@
 use Rattle.std.specs.BTreeMap.{get}
-use Rattle.flow_recover.specs.Spans.{place_cmp}
+use Rattle.code_ranges.specs.Spans.{place_cmp}
 use Rattle.flow_recover.proofs.EdgeFacts.{started_behind}
 use Rattle.flow_recover.proofs.edges.start_behind.Goals as goal
 

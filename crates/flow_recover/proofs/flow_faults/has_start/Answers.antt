@@ -1,8 +1,8 @@
 use Rattle.std.proofs.Common.{◌≡◌, ◌↔◌, true, sym, subst, Bool}
 use Rattle.std.specs.BTreeMap.{get}
-use Rattle.flow_recover.specs.Spans.{place_cmp}
-use Rattle.flow_recover.specs.Starts.{HasStart}
-use Rattle.flow_recover.proofs.StartFacts.{start_found}
+use Rattle.code_ranges.specs.Spans.{place_cmp}
+use Rattle.reloc_places.specs.Starts.{HasStart}
+use Rattle.reloc_places.proofs.StartFacts.{start_found}
 use Rattle.flow_recover.proofs.flow_faults.has_start.Goals as goal
 
 pub returns : goal.returns

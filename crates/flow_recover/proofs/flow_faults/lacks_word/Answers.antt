@@ -1,5 +1,5 @@
 use Rattle.std.proofs.Common.{◌≡◌, ◌↔◌, true, sym, subst, Bool}
-use Rattle.flow_recover.specs.Starts.{IsDataWord}
+use Rattle.reloc_places.specs.Starts.{IsDataWord}
 use Rattle.flow_recover.proofs.NodeFaultFacts.{lacks_is}
 use Rattle.flow_recover.proofs.flow_faults.lacks_word.Goals as goal
 

@@ -1,5 +1,5 @@
 use Rattle.std.proofs.Common.{Ok, Err}
-use Rattle.flow_recover.proofs.PlaceOrder.{place_total, place_exact}
+use Rattle.code_ranges.proofs.PlaceOrder.{place_total, place_exact}
 use Rattle.flow_recover.proofs.Searches.{searched}
 use Rattle.flow_recover.proofs.indexes.place_index.Goals as goal
 

@@ -1,7 +1,7 @@
 use Rattle.std.proofs.Common.{◌≤◌, ℕ, List, length, sym, subst, arith}
 use Rattle.std.specs.BTreeMap.{get}
-use Rattle.flow_recover.specs.Spans.{place_cmp}
-use Rattle.flow_recover.proofs.StartFacts.{IsInside, start_inside}
+use Rattle.code_ranges.specs.Spans.{place_cmp}
+use Rattle.reloc_places.proofs.StartFacts.{IsInside, start_inside}
 use Rattle.flow_recover.proofs.FoundFacts.{found_none, found_some}
 use Rattle.flow_recover.proofs.instructions.found.Goals as goal
 

@@ -1,6 +1,6 @@
 use Rattle.std.proofs.Common.{arith}
 use Rattle.flow_recover.specs.Reach.{IsFound}
-use Rattle.flow_recover.proofs.StartFacts.{start_inside}
+use Rattle.reloc_places.proofs.StartFacts.{start_inside}
 use Rattle.flow_recover.proofs.AnswerFacts.{no_answer, bad_answer, good_answer, this_of}
 use Rattle.flow_recover.proofs.instructions.instr_of.Goals as goal
 

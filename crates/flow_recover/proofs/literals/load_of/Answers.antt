@@ -1,6 +1,6 @@
 use Rattle.std.proofs.Common.{arith}
 use Rattle.flow_recover.specs.Reach.{IsFound}
-use Rattle.flow_recover.proofs.StartFacts.{IsInside, start_inside}
+use Rattle.reloc_places.proofs.StartFacts.{IsInside, start_inside}
 use Rattle.flow_recover.proofs.AnswerFacts.{no_answer, bad_answer, good_answer}
 use Rattle.flow_recover.proofs.LiteralFacts.{load_from, no_load}
 use Rattle.std.proofs.Common.{ap, Some, Ok}

@@ -1,7 +1,7 @@
 use Rattle.std.proofs.Common.{refl, sym}
 use Rattle.std.specs.BTreeMap.{get}
 use Rattle.flow_recover.specs.declared.aims.Aim.TheVariants.{Near, Shared, Fixed, Far}
-use Rattle.flow_recover.specs.Spans.{place_cmp}
+use Rattle.code_ranges.specs.Spans.{place_cmp}
 use Rattle.flow_recover.proofs.PointFacts.{exit_near, exit_nowhere, exit_far}
 use Rattle.flow_recover.proofs.points.exit_of.Goals as goal
 

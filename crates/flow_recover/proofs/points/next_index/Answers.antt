@@ -1,5 +1,5 @@
 use Rattle.std.specs.BTreeMap.{get}
-use Rattle.flow_recover.specs.Spans.{place_cmp}
+use Rattle.code_ranges.specs.Spans.{place_cmp}
 use Rattle.flow_recover.proofs.PointFacts.{next_none, next_there}
 use Rattle.flow_recover.proofs.points.next_index.Goals as goal
 

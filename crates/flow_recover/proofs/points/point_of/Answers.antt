@@ -1,5 +1,5 @@
 use Rattle.std.proofs.Common.{◌≤◌, ℕ, ◌+◌, List, length, refl, sym, subst, arith}
-use Rattle.flow_recover.proofs.StartFacts.{IsInside, start_inside}
+use Rattle.reloc_places.proofs.StartFacts.{IsInside, start_inside}
 use Rattle.flow_recover.proofs.PointFacts.{has_half, is_point_wide}
 use Rattle.flow_recover.proofs.points.point_of.Goals as goal
 

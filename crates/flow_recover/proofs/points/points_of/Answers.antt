@@ -2,7 +2,7 @@ use Rattle.std.proofs.Common.{◌≤◌, get_or, length, map, arith}
 use Rattle.std.proofs.lemmas.Option.{slice_get-get_or}
 use Rattle.flow_recover.specs.declared.nodes.Node.{Node}
 use Rattle.flow_recover.specs.Settled.{word_at}
-use Rattle.flow_recover.proofs.Elements.{contains_at}
+use Rattle.elf_model.proofs.Elements.{contains_at}
 use Rattle.flow_recover.proofs.PointFacts.{no_points, point_more, points_done}
 use Rattle.flow_recover.proofs.points.points_of.Goals as goal
 

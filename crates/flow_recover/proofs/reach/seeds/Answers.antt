@@ -1,7 +1,7 @@
 use Rattle.std.proofs.Common.{◌≡◌, ◌+◌, ℕ, List, take, take_all, sym, subst, ◌∙◌, arith}
 use Rattle.std.specs.BTreeMap.{get}
 use Rattle.flow_recover.specs.declared.named.Claim.{Claim}
-use Rattle.flow_recover.specs.Spans.{place_cmp}
+use Rattle.code_ranges.specs.Spans.{place_cmp}
 use Rattle.flow_recover.proofs.WalkFacts.{AreSeedsOf, seeds_with, seeds_without, seeds_end}
 use Rattle.flow_recover.proofs.reach.seeds.Goals as goal
 use Rattle.flow_recover.proofs.reach.seeds.Goals.{then-contains_key+in_ok-push, else-contains_key}

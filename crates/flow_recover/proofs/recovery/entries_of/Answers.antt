@@ -4,7 +4,7 @@ use Rattle.std.specs.BTreeSet.{contains}
 use Rattle.std.proofs.lemmas.Bool.{true≢false}
 use Rattle.std.proofs.lemmas.Option.{slice_get-get_or}
 use Rattle.flow_recover.specs.declared.nodes.Node.{Node}
-use Rattle.flow_recover.specs.Spans.{place_cmp}
+use Rattle.code_ranges.specs.Spans.{place_cmp}
 use Rattle.flow_recover.proofs.EntryIndexes.{AreUpTo, none_up_to, same_up_to, more_up_to, done_up_to}
 use Rattle.flow_recover.proofs.recovery.entries_of.Goals.{then-is_entered+in_ok-push, else-is_entered}
 use Rattle.flow_recover.proofs.recovery.entries_of.Goals as goal

@@ -1,6 +1,6 @@
 use Rattle.std.proofs.Common.{arith}
 use Rattle.std.specs.BTreeSet.{contains}
-use Rattle.flow_recover.specs.Spans.{place_cmp}
+use Rattle.code_ranges.specs.Spans.{place_cmp}
 use Rattle.flow_recover.proofs.WholeFlowFacts.{nodes_below, flow_made}
 use Rattle.flow_recover.proofs.recovery.flow_of.Goals as goal
 

@@ -1,5 +1,5 @@
 use Rattle.std.specs.BTreeSet.{contains}
-use Rattle.flow_recover.specs.Spans.{place_cmp}
+use Rattle.code_ranges.specs.Spans.{place_cmp}
 use Rattle.flow_recover.proofs.EntryIndexes.{among_is}
 use Rattle.flow_recover.proofs.recovery.is_entered.Goals as goal
 

@@ -1,7 +1,7 @@
 use Rattle.std.proofs.Common.{◌≡◌, ◌≤◌, ◌<◌, ◌+◌, ◌∷◌, [], List, length, drop, get_or, subst, arith}
 use Rattle.std.proofs.lemmas.List.{drop_more, drop_all}
 use Rattle.elf_model.specs.declared.ranges.RangeKind.TheVariants.{Code}
-use Rattle.flow_recover.specs.declared.spans.Span.{Span}
+use Rattle.code_ranges.specs.declared.spans.Span.{Span}
 use Rattle.guard_cli.proofs.Ahead.{IsListedTo, listed_to_next, listed_to_end}
 use Rattle.guard_cli.proofs.contents.push_contents.Goals as goal
 

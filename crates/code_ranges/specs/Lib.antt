@@ -1,0 +1,4 @@
+pub mod CodeRanges
+pub mod Spans
+pub mod Spots
+pub mod AllRanges

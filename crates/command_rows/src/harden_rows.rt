@@ -1,0 +1,92 @@
+use crate::calls::{Answer, Call, answers};
+use crate::files::{FIVE, HARDENED, PLAIN, WITH_DEBUG, plain_with};
+use std::test::Fail;
+
+const REPORT: &str =
+    "b.o: 1 functions, 2 -> 4 instructions, 4 -> 8 bytes, 0 dropped, factor 2\nfactor 2\n";
+
+const REPORT_OF_ONE_DROPPED: &str =
+    "b.o: 1 functions, 2 -> 4 instructions, 4 -> 8 bytes, 1 dropped, factor 2\nfactor 2\n";
+
+const NOT_ELF: &str = "a.o: refused 1 NotElf section 0 offset 0\n";
+
+const NOT_YET: &str = "a.o: refused 32 NotYet section 0 offset 0\n";
+
+const SIXTEEN_PAIRS: &str =
+    "harden a.o b.o a b a b a b a b a b a b a b a b a b a b a b a b a b a b a b";
+
+/// What `harden a.o b.o` makes of each file.
+#[test]
+fn hardens_and_refuses_files(rt: HostRuntime) -> Result<(), Fail> {
+    let long = vec![in rt.alloc(); 0u8; 1_048_577]?;
+    let most = vec![in rt.alloc(); 0u8; 1_048_576]?;
+    let empty = plain_with(48, 0);
+    let adds = [0x01, 0x30];
+    let mut adding = PLAIN;
+    adding[52..54].copy_from_slice(&adds);
+    let rows: [(&[u8], Answer<'_>); 10] = [
+        (&PLAIN, (0, REPORT, Some(&HARDENED))),
+        (&WITH_DEBUG, (0, REPORT_OF_ONE_DROPPED, Some(&HARDENED))),
+        (
+            &long,
+            (1, "a.o: refused 31 TooLong section 0 offset 0\n", None),
+        ),
+        (&most, (1, NOT_ELF, None)),
+        (&[], (1, NOT_ELF, None)),
+        (&PLAIN[..51], (1, NOT_ELF, None)),
+        (
+            &plain_with(4, 2),
+            (1, "a.o: refused 2 NotArmRel section 0 offset 4\n", None),
+        ),
+        (
+            &PLAIN[..80],
+            (1, "a.o: refused 3 BadTable section 0 offset 32\n", None),
+        ),
+        (&empty[..52], (1, NOT_YET, None)),
+        (&adding, (1, NOT_YET, None)),
+    ];
+    for (file, want) in rows {
+        let call = Call {
+            words: "harden a.o b.o",
+            files: &[("a.o", file)],
+            shelf_fails: &[],
+            sink_fails: &[],
+        };
+        answers(&rt, rt.alloc(), &call, "b.o", want)?;
+    }
+    Ok(())
+}
+
+/// What is saved and said where a call on the shelf or the sink fails, and where nothing is loaded.
+#[test]
+fn tells_what_failed(rt: HostRuntime) -> Result<(), Fail> {
+    let none: &[u64] = &[];
+    let first: &[u64] = &[0];
+    let second: &[u64] = &[1];
+    let old: Option<&[u8]> = Some(&FIVE);
+    let rows: [(&str, &[u64], &[u64], Answer<'_>); 8] = [
+        ("harden c.o b.o", none, none, (3, "c.o: read fault\n", old)),
+        ("harden c.o b.o", none, first, (3, "", old)),
+        ("harden a.o b.o", first, none, (3, "a.o: read fault\n", old)),
+        (
+            "harden a.o b.o",
+            second,
+            none,
+            (3, "b.o: write fault\n", old),
+        ),
+        ("harden a.o b.o", second, first, (3, "", old)),
+        ("harden a.o b.o", none, first, (3, "", Some(&HARDENED))),
+        ("harden a.o b.o c.o d.o", first, none, (1, NOT_YET, old)),
+        (SIXTEEN_PAIRS, first, none, (1, NOT_YET, old)),
+    ];
+    for (words, shelf_fails, sink_fails, want) in rows {
+        let call = Call {
+            words,
+            files: &[("a.o", &PLAIN), ("b.o", &FIVE)],
+            shelf_fails,
+            sink_fails,
+        };
+        answers(&rt, rt.alloc(), &call, "b.o", want)?;
+    }
+    Ok(())
+}

@@ -1,0 +1,171 @@
+//! Rows of `link` and `run`.
+
+use crate::calls::{Answer, Call, USAGE, answers};
+use crate::files::{FIVE, HARDENED, IMAGE, PLAIN, of_code};
+use std::alloc::Global;
+use std::process::Abort;
+use std::test::Fail;
+
+const LINKED: &str = "linked 8 bytes of code, 0 bytes of data\n";
+
+/// A command over the files of these rows.
+fn prints(
+    rt: &impl Abort,
+    alloc: Global,
+    words: &str,
+    fails: (&[u64], &[u64]),
+    want: Answer<'_>,
+) -> Result<(), Fail> {
+    let adds = of_code([0x01, 0x30, 0x70, 0x47, 0, 0, 0, 0, 0, 0], 4, 0);
+    let loads = of_code([0x00, 0x68, 0x70, 0x47, 0, 0, 0, 0, 0, 0], 4, 0);
+    // mov r0, lr; adds r0, #1; bx lr
+    let address = of_code([0x70, 0x46, 0x01, 0x30, 0x70, 0x47, 0, 0, 0, 0], 6, 0);
+    // mov.w r1, #1000; subs r1, #1; bne back; bx lr
+    let loop_bytes = [0x4f, 0xf4, 0x7a, 0x71, 0x01, 0x39, 0xfd, 0xd1, 0x70, 0x47];
+    let loops = of_code(loop_bytes, 10, 0);
+    let call = Call {
+        words,
+        files: &[
+            ("a.o", &PLAIN),
+            ("b.o", &HARDENED),
+            ("five.o", &FIVE),
+            ("adds.o", &adds),
+            ("loads.o", &loads),
+            ("lr.o", &address),
+            ("loops.o", &loops),
+            ("short.o", &PLAIN[..51]),
+        ],
+        shelf_fails: fails.0,
+        sink_fails: fails.1,
+    };
+    answers(rt, alloc, &call, "i.bin", want)
+}
+
+#[test]
+fn runs_functions(rt: HostRuntime) -> Result<(), Fail> {
+    for (line, status, text) in [
+        (
+            "--room 64 --arg 9 --steps 10 b.o",
+            0,
+            "returned after 3 steps, r0 0x00000005, ordinary yes\n",
+        ),
+        (
+            "--room 64 --arg 9 --steps 10 --skip 0 b.o",
+            0,
+            "returned after 3 steps, r0 0x00000005, ordinary yes\n",
+        ),
+        (
+            "--room 64 --arg 9 --steps 10 --skip 2 b.o",
+            0,
+            "returned after 4 steps, r0 0x00000005, ordinary yes\n",
+        ),
+        (
+            "--room 64 --arg 9 --steps 10 --skip 0,2 b.o",
+            0,
+            "returned after 4 steps, r0 0x00000005, ordinary yes\n",
+        ),
+        (
+            "--room 64 --arg 9 --steps 10 --skip 0 a.o",
+            0,
+            "returned after 2 steps, r0 0x00000009, ordinary yes\n",
+        ),
+        (
+            "--room=64 --steps=10 --skip=0 a.o",
+            0,
+            "returned after 2 steps, r0 0x00000000, ordinary yes\n",
+        ),
+        (
+            "--room 64 --arg 9 --steps 2 b.o",
+            5,
+            "unfinished after 2 steps\n",
+        ),
+        (
+            "--room 64 --steps 10 --skip 1 a.o",
+            5,
+            "stopped BadFetch at 0x00008004 after 2 steps\n",
+        ),
+        ("--room 64 --arg 9 --steps 10 --skip 0,1 b.o", 2, USAGE),
+        (
+            "--room 8 --arg 9 --steps 10 adds.o",
+            0,
+            "returned after 2 steps, r0 0x0000000a, ordinary yes\n",
+        ),
+        (
+            "--room 64 --arg 3 --steps 10000 loops.o",
+            0,
+            "returned after 2002 steps, r0 0x00000003, ordinary yes\n",
+        ),
+        (
+            "--room 64 --arg 9 --steps 10 lr.o",
+            0,
+            "returned after 3 steps, r0 0x80000000, ordinary no\n",
+        ),
+        (
+            "--room 64 --arg 9 --steps 10 loads.o",
+            5,
+            "stopped BadAddress at 0x00008000 after 0 steps\n",
+        ),
+    ] {
+        let line = format!(in rt.alloc(); "run --base 0x8000 --entry f {line}")?;
+        prints(&rt, rt.alloc(), &line, (&[], &[]), (status, text, None))?;
+    }
+    Ok(())
+}
+
+#[test]
+fn refuses_to_run_and_to_link(rt: HostRuntime) -> Result<(), Fail> {
+    for (line, text) in [
+        (
+            "run --base 0x8000 --room 64 --entry g --steps 10 a.o",
+            "a.o: refused 30 NoEntry section 0 offset 0\n",
+        ),
+        (
+            "run --base 0x8000 --room 8 --entry f --steps 10 five.o",
+            "five.o: refused 28 DoesNotFit section 0 offset 0\n",
+        ),
+        (
+            "run --base 0xfffff000 --room 64 --entry f --steps 10 a.o",
+            "a.o: refused 28 DoesNotFit section 0 offset 0\n",
+        ),
+        (
+            "run --base 0x8000 --room 64 --entry f --steps 10 --seed 1 a.o",
+            "a.o: refused 32 NotYet section 0 offset 0\n",
+        ),
+        (
+            "link --base 0x8000 --room 64 i.bin b.o missing.o",
+            "b.o: refused 32 NotYet section 0 offset 0\n",
+        ),
+        (
+            "link --base 0x8000 --room 64 i.bin short.o",
+            "short.o: refused 1 NotElf section 0 offset 0\n",
+        ),
+    ] {
+        prints(&rt, rt.alloc(), line, (&[], &[]), (1, text, None))?;
+    }
+    Ok(())
+}
+
+#[test]
+fn tells_what_failed(rt: HostRuntime) -> Result<(), Fail> {
+    let none: &[u64] = &[];
+    let first: &[u64] = &[0];
+    let second: &[u64] = &[1];
+    let image: Option<&[u8]> = Some(&IMAGE);
+    let link = "link --base 0x8000 --room 64 i.bin b.o";
+    let missing = "link --base 0x8000 --room 64 i.bin c.o";
+    let runs = "run --base 0x8000 --room 64 --entry f --steps 10 a.o";
+    let stops = "run --base 0x8000 --room 64 --entry f --steps 1 a.o";
+    let rows: [(&str, &[u64], &[u64], Answer<'_>); 7] = [
+        (link, none, none, (0, LINKED, image)),
+        (link, first, none, (3, "b.o: read fault\n", None)),
+        (link, second, none, (3, "i.bin: write fault\n", None)),
+        (link, none, first, (3, "", image)),
+        (missing, none, none, (3, "c.o: read fault\n", None)),
+        (runs, none, first, (3, "", None)),
+        (stops, none, first, (5, "", None)),
+    ];
+    for (line, shelf_fails, sink_fails, want) in rows {
+        prints(&rt, rt.alloc(), line, (shelf_fails, sink_fails), want)?;
+    }
+    Ok(())
+}

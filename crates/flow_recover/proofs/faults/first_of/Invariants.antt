@@ -1,6 +1,0 @@
-use Rattle.std.proofs.Common.{take}
-use Rattle.flow_recover.specs.Spots.{IsFirst}
-use Rattle.flow_recover.proofs.faults.first_of.Given as goal
-
-abbrev pub invariant-loop-s : goal.invariant-loop-s
-invariant-loop-s l = IsFirst (take l.s-index l.spots) l.first

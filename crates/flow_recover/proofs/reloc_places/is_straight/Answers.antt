@@ -1,8 +1,0 @@
-use Rattle.flow_recover.proofs.RelocPlaces.{number_read}
-use Rattle.flow_recover.proofs.reloc_places.is_straight.Goals as goal
-
-pub addend-requires-clause-half : goal.addend-requires-clause-half
-addend-requires-clause-half c = (number_read c.args.o.now c.args.r.now c.bytes_of.result.now c.sound.ensures c.requires.within c.requires.good c.requires.place c.bytes_of.ensures).half
-
-pub addend-requires-clause-full : goal.addend-requires-clause-full
-addend-requires-clause-full c = (number_read c.args.o.now c.args.r.now c.bytes_of.result.now c.sound.ensures c.requires.within c.requires.good c.requires.place c.bytes_of.ensures).full

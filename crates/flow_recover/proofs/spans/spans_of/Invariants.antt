@@ -1,6 +1,0 @@
-use Rattle.std.proofs.Common.{◌≡◌, ◌++◌, drop}
-use Rattle.flow_recover.specs.Spans.{spans_from}
-use Rattle.flow_recover.proofs.spans.spans_of.Given as goal
-
-abbrev pub invariant-loop-k : goal.invariant-loop-k
-invariant-loop-k l = l.spans.items ++ spans_from l.sections (drop l.k l.marks) ≡ spans_from l.sections l.marks

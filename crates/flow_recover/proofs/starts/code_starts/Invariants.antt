@@ -1,7 +1,0 @@
-use Rattle.std.specs.BTreeMap.{get}
-use Rattle.flow_recover.specs.Spans.{place_cmp}
-use Rattle.flow_recover.proofs.StartTables.{StartsUpTo}
-use Rattle.flow_recover.proofs.starts.code_starts.Given as goal
-
-abbrev pub invariant-loop-r : goal.invariant-loop-r
-invariant-loop-r l = StartsUpTo l.o l.ranges l.r-index (λ j x. get place_cmp l.starts (j, x))

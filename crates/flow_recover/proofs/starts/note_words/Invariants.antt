@@ -1,7 +1,0 @@
-use Rattle.std.specs.BTreeSet.{contains}
-use Rattle.flow_recover.specs.Spans.{place_cmp}
-use Rattle.flow_recover.proofs.RangeStarts.{AreNoted}
-use Rattle.flow_recover.proofs.starts.note_words.Given as goal
-
-abbrev pub invariant-loop-k : goal.invariant-loop-k
-invariant-loop-k l = AreNoted l.r.section l.r.start l.r.end l.k (λ j x. contains place_cmp l.fn.words (j, x)) (λ j x. contains place_cmp l.words (j, x))

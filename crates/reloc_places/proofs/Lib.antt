@@ -1,0 +1,6 @@
+pub mod StartFacts
+mod RangeStarts
+mod StartTables
+pub mod RelocPlaces
+pub mod RelocOrder
+pub mod RelocTable

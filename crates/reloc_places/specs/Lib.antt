@@ -1,0 +1,4 @@
+pub mod Starts
+pub mod Relocations
+pub mod Placement
+pub mod Tables
