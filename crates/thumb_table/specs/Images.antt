@@ -7,7 +7,6 @@ use Rattle.elf_model.specs.declared.ranges.RangeKind.TheVariants.{Data}
 use Rattle.elf_model.specs.Fields.{byte_at, same_name}
 use Rattle.elf_model.specs.Objects.{ObjectParts, is_code}
 pub use Rattle.elf_model.specs.Objects.{is_data, even}
-use Rattle.elf_model.specs.Canonical.{round_up}
 use Rattle.elf_model.specs.Ranges.{IsBeginning}
 use Rattle.mark_word.specs.declared.marks.Mark.TheVariants.{Plain}
 use Rattle.mark_word.specs.Words.{bare}
