@@ -4,3 +4,4 @@ mod StartTables
 pub mod RelocPlaces
 pub mod RelocOrder
 pub mod RelocTable
+pub mod DecodedPlaces
