@@ -4,7 +4,8 @@ use Rattle.elf_model.specs.declared.refusals.Refusal.{Refusal}
 use Rattle.elf_model.specs.declared.refusals.Refusal.TheVariants.{BadReloc, TooMany, SectionKind}
 use Rattle.elf_model.specs.declared.refusals.Limit.{Limit}
 use Rattle.elf_model.specs.Refusals.{number_of}
-use Rattle.elf_read.specs.Faults.{Fault, IsFaultless, IsFaultlessBelow}
+use Rattle.elf_read.specs.FirstFaults.{IsFaultlessBelow}
+use Rattle.elf_read.specs.Faults.{Fault, IsFaultless}
 use Rattle.elf_read.specs.Faults.Fault.{too_short, other_magic, other_class, other_order, other_type, other_machine, other_version}
 use Rattle.elf_read.proofs.FirstFaults.{IsOnly}
 

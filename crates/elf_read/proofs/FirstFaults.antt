@@ -6,8 +6,8 @@ use Rattle.elf_model.specs.declared.refusals.Refusal.TheVariants.{NotElf, NotArm
 use Rattle.elf_model.specs.declared.refusals.Limit.{Limit}
 use Rattle.elf_model.specs.Refusals.{number_of}
 use Rattle.elf_read.specs.declared.places.Place.{Place}
-use Rattle.elf_read.specs.Faults.{Fault, IsFaultlessBelow}
-use Rattle.elf_read.specs.FirstFaults.{IsFirstBelow, spot_at}
+use Rattle.elf_read.specs.Faults.{Fault}
+use Rattle.elf_read.specs.FirstFaults.{IsFirstBelow, spot_at, IsFaultlessBelow}
 use Rattle.elf_read.specs.HeaderFaults.{IsTabled}
 use Rattle.elf_read.specs.Places.{IsLowest}
 use Rattle.elf_read.proofs.Tabled.{tabled, le_stable}

@@ -5,7 +5,8 @@ use Rattle.elf_model.specs.declared.refusals.Limit.{Limit}
 use Rattle.elf_model.specs.declared.refusals.Refusal.TheVariants.{NotElf, NotArmRel, BadTable, BadName, BadSymbol, BadReloc}
 use Rattle.elf_model.specs.Fields.{half_at, word_at}
 use Rattle.elf_model.specs.Files.{IsArmObject, HasTables}
-use Rattle.elf_read.specs.Faults.{Fault, IsFaultlessBelow, names_no_section}
+use Rattle.elf_read.specs.FirstFaults.{IsFaultlessBelow}
+use Rattle.elf_read.specs.Faults.{Fault, names_no_section}
 use Rattle.elf_read.specs.Faults.Fault.{too_short, other_magic, other_class, other_order, other_type, other_machine, other_version, other_header_size, bad_symbol}
 use Rattle.elf_read.specs.Keeping.{HasHomes, HasSymbols, flag_at, symbol_flags}
 use Rattle.elf_read.specs.HeaderFaults.{IsTabled}

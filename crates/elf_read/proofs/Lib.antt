@@ -33,5 +33,4 @@ pub mod WrittenFile
 pub mod MapRows
 pub mod FoundMaps
 pub mod RowBytes
-pub mod EachRow
 pub mod MapFaults

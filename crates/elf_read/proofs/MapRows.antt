@@ -4,10 +4,10 @@ use Rattle.std.specs.Prelude.{All}
 use Rattle.std.specs.List.{list_all}
 use Rattle.std.proofs.lemmas.List.{at_drop_more}
 use Rattle.std.proofs.lemmas.Bool.Decides.{nat_tests}
-use Rattle.std.proofs.lemmas.List.Elements.{All-nil}
-use Rattle.elf_read.proofs.EachRow.{all_cons, all_first, all_rest}
+use Rattle.std.proofs.lemmas.List.Elements.{All-nil, All-cons, All-head, All-tail}
 use Rattle.elf_model.specs.declared.objects.MapRow.{MapRow}
-use Rattle.elf_read.specs.MapRows.{IsBefore, Rise, is_before, may_come, rising}
+use Rattle.elf_model.specs.Maps.{IsBefore, Rise}
+use Rattle.elf_read.specs.MapRows.{is_before, may_come, rising}
 
 -- whether these rows stand above the last one before, if there was one
 abbrev pub are_above : Option MapRow → List MapRow → Bool
@@ -55,7 +55,7 @@ is_before_so a b h = let e = h.before in grind (arith, nat_tests)
 
 all_before : (a : MapRow) (rest : List MapRow) → list_all (is_before a) rest ≡ true → All (IsBefore a) rest
 all_before a [] h = All-nil (IsBefore a)
-all_before a (b ∷ rest) h = let e = both (is_before a b) (list_all (is_before a) rest) h in all_cons (IsBefore a) b rest (before_is a b e.0) (all_before a rest e.1)
+all_before a (b ∷ rest) h = let e = both (is_before a b) (list_all (is_before a) rest) h in All-cons (IsBefore a) b rest (before_is a b e.0) (all_before a rest e.1)
 
 pub rise_is : (rows : List MapRow) → rising rows ≡ true → Rise rows
 rise_is [] h = tt
@@ -63,7 +63,7 @@ rise_is (r ∷ rest) h = let e = both (list_all (is_before r) rest) (rising rest
 
 all_before_so : (a : MapRow) (rest : List MapRow) → All (IsBefore a) rest → list_all (is_before a) rest ≡ true
 all_before_so a [] h = refl
-all_before_so a (b ∷ rest) h = ap (λ (x : Bool). x && list_all (is_before a) rest) (is_before_so a b (all_first (IsBefore a) b rest h)) ∙ all_before_so a rest (all_rest (IsBefore a) b rest h)
+all_before_so a (b ∷ rest) h = ap (λ (x : Bool). x && list_all (is_before a) rest) (is_before_so a b (All-head (IsBefore a) b rest h)) ∙ all_before_so a rest (All-tail (IsBefore a) b rest h)
 
 pub rising_so : (rows : List MapRow) → Rise rows → rising rows ≡ true
 rising_so [] h = refl

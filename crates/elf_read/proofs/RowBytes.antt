@@ -3,16 +3,15 @@ use Rattle.std.proofs.Common.{◌≡◌, ◌≤◌, ◌<◌, ℕ, zero, suc, ◌
 use Rattle.std.specs.Prelude.{All, slice_index}
 use Rattle.std.specs.List.{flat_map}
 use Rattle.std.proofs.lemmas.List.{drop-drop, get_or-drop, drop_all, append-nil, flat_map_more}
-use Rattle.std.proofs.lemmas.List.Elements.{All-nil}
+use Rattle.std.proofs.lemmas.List.Elements.{All-nil, All-cons, All-head, All-tail}
 use Rattle.byteorder.specs.Endian.{little_number}
 use Rattle.byteorder.specs.Numbers.{little_number-reads_back}
 use Rattle.elf_model.specs.declared.objects.MapRow.{MapRow}
 use Rattle.elf_model.specs.declared.objects.RowKind.{RowKind}
 use Rattle.elf_model.specs.declared.objects.RowKind.TheVariants.{Start, Return}
 use Rattle.elf_model.specs.Fields.{word_at, word}
-use Rattle.elf_model.specs.Maps.{row_bytes, row_kind}
-use Rattle.elf_read.proofs.EachRow.{all_cons, all_first, all_rest}
-use Rattle.elf_read.specs.MapRows.{IsFit, AreRows, HasNoRows, IsRow, IsRowAt, kind_of}
+use Rattle.elf_model.specs.Maps.{row_bytes, row_kind, RowFits, AreRows}
+use Rattle.elf_read.specs.MapRows.{HasNoRows, IsRow, IsRowAt, row_kind_of}
 
 -- a word that was read is its four bytes
 word_back : (xs : List ℕ) → 4 ≤ length xs → ((k : ℕ) → slice_index xs k < 256) → xs ≡ word (little_number 4 xs) ++ drop 4 xs
@@ -72,7 +71,7 @@ kind_low Return = omega arith
 kind_read : (b : List ℕ) (at : ℕ) (r : MapRow) (rest : List ℕ) → drop at b ≡ row_bytes r ++ rest → word_at b (at + 12) ≡ row_kind r.kind
 kind_read b at r rest e = word_read b (at + 12) (row_kind r.kind) rest (drop_further b at 12 (row_bytes r ++ rest) e) (kind_low r.kind)
 
-some_kind : (k : RowKind) → kind_of (row_kind k) ≡ None → ⊥
+some_kind : (k : RowKind) → row_kind_of (row_kind k) ≡ None → ⊥
 some_kind Start h = absurd (grind (arith, h))
 some_kind Return h = absurd (grind (arith, h))
 
@@ -83,20 +82,20 @@ same_kind Return Start e = absurd (omega (arith, e))
 same_kind Return Return e = refl
 
 -- no row has another code
-pub no_row : (b : List ℕ) (at : ℕ) → kind_of (word_at b (at + 12)) ≡ None → IsRowAt b at None
-no_row b at none = λ r rest e. some_kind r.kind (ap kind_of (sym (kind_read b at r rest e)) ∙ none)
+pub no_row : (b : List ℕ) (at : ℕ) → row_kind_of (word_at b (at + 12)) ≡ None → IsRowAt b at None
+no_row b at none = λ r rest e. some_kind r.kind (ap row_kind_of (sym (kind_read b at r rest e)) ∙ none)
 
 -- what is known of the rows read so far
 pub record AreRead (b : List ℕ) (i : ℕ) (rows : List MapRow) : Type 0 where
   pub bytes : flat_map row_bytes rows ++ drop (16 * i) b ≡ b
-  pub fit : All IsFit rows
+  pub fit : All RowFits rows
 
 pub none_read : (b : List ℕ) (rows : List MapRow) → rows ≡ [] → AreRead b 0 rows
-none_read b rows e = record { bytes = ap (λ (xs : List MapRow). flat_map row_bytes xs ++ b) e; fit = subst (All IsFit) (sym e) (All-nil IsFit) }
+none_read b rows e = record { bytes = ap (λ (xs : List MapRow). flat_map row_bytes xs ++ b) e; fit = subst (All RowFits) (sym e) (All-nil RowFits) }
 
-all_more : (rows : List MapRow) (r : MapRow) → All IsFit rows → IsFit r → All IsFit (rows ++ r ∷ [])
-all_more [] r h f = all_cons IsFit r [] f h
-all_more (q ∷ rows) r h f = all_cons IsFit q (rows ++ r ∷ []) (all_first IsFit q rows h) (all_more rows r (all_rest IsFit q rows h) f)
+all_more : (rows : List MapRow) (r : MapRow) → All RowFits rows → RowFits r → All RowFits (rows ++ r ∷ [])
+all_more [] r h f = All-cons RowFits r [] f h
+all_more (q ∷ rows) r h f = All-cons RowFits q (rows ++ r ∷ []) (All-head RowFits q rows h) (all_more rows r (All-tail RowFits q rows h) f)
 
 pub one_more : (b : List ℕ) (i : ℕ) (rows new : List MapRow) (r : MapRow) → new ≡ rows ++ r ∷ [] → IsRow b (16 * i) r → AreRead b i rows → AreRead b (i + 1) new
 one_more b i rows new r e row h =
@@ -108,7 +107,7 @@ one_more b i rows new r e row h =
           ∙ ap (λ (xs : List ℕ). xs ++ drop (16 * i + 16) b) (sym (flat_map_more row_bytes [] rows r))
           ∙ append_assoc (flat_map row_bytes rows) (row_bytes r) (drop (16 * i + 16) b)
           ∙ ap (λ (xs : List ℕ). flat_map row_bytes rows ++ xs) (sym row.bytes) ∙ h.bytes;
-      fit = subst (All IsFit) (sym e) (all_more rows r h.fit row.fit);
+      fit = subst (All RowFits) (sym e) (all_more rows r h.fit row.fit);
     }
 
 pub all_read : (b : List ℕ) (i : ℕ) (rows : List MapRow) → length b ≤ 16 * i → AreRead b i rows → AreRows b rows
@@ -117,36 +116,40 @@ all_read b i rows l h = record {
   fit = h.fit;
 }
 
+further : (b rest : List ℕ) (i : ℕ) → drop 16 b ≡ rest → drop (16 * suc i) b ≡ drop (16 * i) rest
+further b rest i e =
+    let next : 16 * suc i ≡ 16 + 16 * i = omega arith in
+    ap (λ (m : ℕ). drop m b) next ∙ sym (drop-drop (16 * i) 16 b) ∙ ap (drop (16 * i)) e
+
 row_in : (rows : List MapRow) (i : ℕ) (b : List ℕ) → b ≡ flat_map row_bytes rows → 16 * i < length b → (r : MapRow) × (rest : List ℕ) × (drop (16 * i) b ≡ row_bytes r ++ rest)
 row_in [] i b e l = absurd (let n : length b ≡ 0 = ap length e in omega (arith, n, l))
 row_in (r ∷ rows) zero b e l = (r, flat_map row_bytes rows, e)
 row_in (r ∷ rows) (suc i) b e l =
     let n : length b ≡ 16 + length (flat_map row_bytes rows) = ap length e ∙ omega arith in
     let f = row_in rows i (flat_map row_bytes rows) refl (omega (arith, n, l)) in
-    let next : 16 * suc i ≡ 16 + 16 * i = omega arith in
-    (f.0, f.1, ap (λ (m : ℕ). drop m b) next ∙ sym (drop-drop (16 * i) 16 b) ∙ ap (λ (xs : List ℕ). drop (16 * i) (drop 16 xs)) e ∙ f.2)
+    (f.0, f.1, further b (flat_map row_bytes rows) i (ap (drop 16) e) ∙ f.2)
 
 pub no_rows : (b : List ℕ) (i : ℕ) → 16 * i < length b → IsRowAt b (16 * i) None → HasNoRows b
 no_rows b i l none = λ rows h. let f = row_in rows i b h.bytes l in none f.0 f.1 f.2
 
-pub same_rows : (xs ys : List MapRow) → flat_map row_bytes xs ≡ flat_map row_bytes ys → All IsFit xs → All IsFit ys → xs ≡ ys
+pub same_rows : (xs ys : List MapRow) → flat_map row_bytes xs ≡ flat_map row_bytes ys → All RowFits xs → All RowFits ys → xs ≡ ys
 same_rows [] [] e f g = refl
 same_rows [] (y ∷ ys) e f g = absurd (let n = ap length e in omega (arith, n))
 same_rows (x ∷ xs) [] e f g = absurd (let n = ap length e in omega (arith, n))
 same_rows (x ∷ xs) (y ∷ ys) e f g =
     let b = flat_map row_bytes (x ∷ xs) in
-    let s : x.section ≡ y.section = sym (section_read b 0 x (flat_map row_bytes xs) refl (all_first IsFit x xs f).section) ∙ section_read b 0 y (flat_map row_bytes ys) e (all_first IsFit y ys g).section in
-    let o : x.old ≡ y.old = sym (old_read b 0 x (flat_map row_bytes xs) refl (all_first IsFit x xs f).old) ∙ old_read b 0 y (flat_map row_bytes ys) e (all_first IsFit y ys g).old in
-    let n : x.new ≡ y.new = sym (new_read b 0 x (flat_map row_bytes xs) refl (all_first IsFit x xs f).new) ∙ new_read b 0 y (flat_map row_bytes ys) e (all_first IsFit y ys g).new in
+    let s : x.section ≡ y.section = sym (section_read b 0 x (flat_map row_bytes xs) refl (All-head RowFits x xs f).section) ∙ section_read b 0 y (flat_map row_bytes ys) e (All-head RowFits y ys g).section in
+    let o : x.old ≡ y.old = sym (old_read b 0 x (flat_map row_bytes xs) refl (All-head RowFits x xs f).old) ∙ old_read b 0 y (flat_map row_bytes ys) e (All-head RowFits y ys g).old in
+    let n : x.new ≡ y.new = sym (new_read b 0 x (flat_map row_bytes xs) refl (All-head RowFits x xs f).new) ∙ new_read b 0 y (flat_map row_bytes ys) e (All-head RowFits y ys g).new in
     let k : x.kind ≡ y.kind = same_kind x.kind y.kind (sym (kind_read b 0 x (flat_map row_bytes xs) refl) ∙ kind_read b 0 y (flat_map row_bytes ys) e) in
-    let rest = same_rows xs ys (ap (drop 16) e) (all_rest IsFit x xs f) (all_rest IsFit y ys g) in
+    let rest = same_rows xs ys (ap (drop 16) e) (All-tail RowFits x xs f) (All-tail RowFits y ys g) in
     λ i. (record { section = s i; old = o i; new = n i; kind = k i }) ∷ rest i
 
 pub whole_rows : (rows : List MapRow) → length (flat_map row_bytes rows) ≡ 16 * length rows
 whole_rows [] = refl
 whole_rows (r ∷ rows) = omega (arith, whole_rows rows)
 
-pub kind_back : (code : ℕ) (k : RowKind) → kind_of code ≡ Some k → code ≡ row_kind k
+pub kind_back : (code : ℕ) (k : RowKind) → row_kind_of code ≡ Some k → code ≡ row_kind k
 kind_back zero Start h = refl
 kind_back zero Return h = absurd (grind (arith, h))
 kind_back (suc zero) Start h = absurd (grind (arith, h))

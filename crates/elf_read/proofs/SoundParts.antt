@@ -12,10 +12,10 @@ use Rattle.elf_model.specs.declared.objects.Symbol.{Symbol}
 use Rattle.elf_model.specs.declared.objects.Home.TheVariants as home
 use Rattle.elf_model.specs.Constants.{symtab, rel, nobits, local, undefined_index, absolute_index}
 use Rattle.elf_model.specs.Fields.{half_at, word_at}
-use Rattle.elf_model.specs.Objects.{is_name, is_symbol, is_at_home, has_home, locals_first, place_width, is_kind, is_placed, is_reloc}
+use Rattle.elf_model.specs.Objects.{is_name, is_symbol, is_at_home, has_home, locals_first, place_width, is_kind, is_placed, is_reloc, code_width}
 use Rattle.elf_model.specs.Files.{from, header, is_kept, kept_headers, section_of, section_number, is_kept_symbol, kept_symbols, symbol_table, symbol_places, symbol_name, symbol_of, symbol_number, home_of, reloc_kind, reloc_of, IsKind}
 use Rattle.elf_model.proofs.Lists.{get_map}
-use Rattle.elf_read.specs.Faults.{Fault, IsHeader, IsSymbolAt, IsRelocAt, IsKeptSymbol, names_no_section, reloc_width}
+use Rattle.elf_read.specs.Faults.{Fault, IsHeader, IsSymbolAt, IsRelocAt, IsKeptSymbol, names_no_section}
 use Rattle.elf_read.specs.Faults.Fault.{bad_place, second_place, nobits_target}
 use Rattle.elf_read.specs.HeaderFaults.{IsTabled}
 use Rattle.elf_read.specs.Keeping.{HasHomes, HasSymbols, is_some_reloc}
@@ -123,7 +123,7 @@ module _ (b : List ℕ) (tabled : IsTabled b) (named : IsNamed b) (symbols : Are
 pub kind_good : (code : ℕ) → code ≢ 0 → is_kind (reloc_kind code) ≡ true
 kind_good code n = grind (arith, nat_tests)
 
-pub width_same : (code : ℕ) → place_width (reloc_kind code) ≡ reloc_width code
+pub width_same : (code : ℕ) → place_width (reloc_kind code) ≡ code_width code
 width_same code = grind (arith, nat_tests)
 
 module _ (b : List ℕ) (l : Limit) (tabled : IsTabled b) (named : IsNamed b) (symbols : AreSymbols b) (homes : HasHomes b) (has : HasSymbols b) (relocs : (s o : ℕ) → Fault b l BadReloc s o → ⊥) where
@@ -135,7 +135,7 @@ module _ (b : List ℕ) (l : Limit) (tabled : IsTabled b) (named : IsNamed b) (s
       let section = section_there b (header b h).info target.listed at.of_kept in
       let filled : not ((header b (header b h).info).kind == nobits) ≡ true = not_from_false _ (ne_eqb _ nobits (λ e. relocs h _ (nobits_target h at.table at.of_kept e))) in
       let inside : nat_le (word_at b r + place_width (reloc_kind code)) (header b (header b h).info).size ≡ true =
-      le-leb _ _ (elim (cases_lt (header b (header b h).info).size (word_at b r + reloc_width code)) [
+      le-leb _ _ (elim (cases_lt (header b (header b h).info).size (word_at b r + code_width code)) [
         | inl out ↦ absurd (relocs h r (bad_place h j r at out))
         | inr fits ↦ (let same = width_same code in omega (arith, same, fits))
       ]) in

@@ -12,10 +12,10 @@ use Rattle.elf_model.specs.declared.refusals.Limit.{Limit}
 use Rattle.elf_model.specs.declared.refusals.Refusal.TheVariants.{BadTable, SectionKind}
 use Rattle.elf_model.specs.Constants.{progbits, note, arm_attributes, nobits, rel, arm_exidx}
 use Rattle.elf_model.specs.Fields.{half_at}
-use Rattle.elf_model.specs.Objects.{is_name, is_dropped_name, is_alignment, is_kept_kind, is_alloc, is_writable, is_exec, is_section, has_bytes}
+use Rattle.elf_model.specs.Objects.{is_name, is_dropped_name, is_alignment, is_kept_kind, is_alloc, is_writable, is_exec, is_section, has_bytes, is_memory_kind}
 use Rattle.elf_model.specs.Files.{from, header, header_count, headers, contents, text_at, EndsAt, section_name, section_of, is_table, is_refused_kind, is_dropped, is_kept, kept_headers, section_number}
 use Rattle.elf_model.proofs.Lists.{count_cons, get_map}
-use Rattle.elf_read.specs.Faults.{Fault, IsHeader, is_memory_kind}
+use Rattle.elf_read.specs.Faults.{Fault, IsHeader}
 use Rattle.elf_read.specs.Faults.Fault.{bad_alignment, refused_kind, memory_kind, writable_code, empty_code}
 use Rattle.elf_read.specs.HeaderFaults.{IsTabled}
 use Rattle.elf_read.specs.Texts.{IsNamed}

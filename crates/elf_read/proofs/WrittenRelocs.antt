@@ -8,7 +8,7 @@ use Rattle.elf_model.specs.declared.objects.Section.{Section}
 use Rattle.elf_model.specs.declared.objects.Reloc.{Reloc}
 use Rattle.elf_model.specs.Constants.{nobits, rel}
 use Rattle.elf_model.specs.Fields.{word_at}
-use Rattle.elf_model.specs.Objects.{ObjectParts, is_placed, place_width, reloc_code}
+use Rattle.elf_model.specs.Objects.{ObjectParts, is_placed, place_width, reloc_code, code_width}
 use Rattle.elf_model.specs.Files.{header, IsKind}
 use Rattle.elf_model.specs.Canonical.{own_section, relocated, relocs_in, symtab_header}
 use Rattle.elf_model.proofs.Lists.{there}
@@ -19,7 +19,7 @@ use Rattle.elf_model.proofs.Kept.{own_facts}
 use Rattle.elf_model.proofs.Symbols.{symtab_fields}
 use Rattle.elf_model.proofs.Tables.{symtab_kind}
 use Rattle.elf_model.proofs.Relocs.{RelocFacts, reloc_fields, table_none, row_words, facts_of}
-use Rattle.elf_read.specs.Faults.{IsSymbolAt, IsRelocAt, IsKeptSymbol, reloc_width}
+use Rattle.elf_read.specs.Faults.{IsSymbolAt, IsRelocAt, IsKeptSymbol}
 use Rattle.elf_read.proofs.WrittenLists.{relocated_at, relocated_rise, offsets_rise}
 use Rattle.elf_read.proofs.WrittenSymbols.{at_home}
 
@@ -120,12 +120,12 @@ module _ (o : ObjectParts) (b : List ℕ) (r : Reading o b) where
       let facts = facts_of o b r t.p 0 at.0 at.1 in
       (room_of at.0 t.p.0 facts.0 facts.2).filled (sym (ap (λ (i : ℕ). (header b i).kind) (info_of h t)) ∙ z)
 
-  pub places : (h j e : ℕ) → IsRelocAt b h j e → word_at b e + reloc_width (word_at b (e + 4) % 256) ≤ (header b (header b h).info).size
+  pub places : (h j e : ℕ) → IsRelocAt b h j e → word_at b e + code_width (word_at b (e + 4) % 256) ≤ (header b (header b h).info).size
   places h j e i =
       let t = table_found h i.table in
       let f = entry_found h j e i in
       let inside = (room_of f.x t.p.0 f.facts f.section).inside in
-      let width : reloc_width (word_at b (e + 4) % 256) ≡ place_width f.x.kind = ap reloc_width f.code in
+      let width : code_width (word_at b (e + 4) % 256) ≡ place_width f.x.kind = ap code_width f.code in
       let size : (header b (header b h).info).size ≡ (header b (t.p.0 + 1)).size = ap (λ (n : ℕ). (header b n).size) (info_of h t) in
       let offset : word_at b e ≡ f.x.offset = f.offset in
       omega (arith, inside, width, size, offset)

@@ -6,10 +6,11 @@ use Rattle.std.proofs.lemmas.Bool.{and_parts, and_left, and_right, cases_lt, eq-
 use lib.Pointwise.{bytes_decides}
 use Rattle.elf_model.specs.declared.objects.Section.{Section}
 use Rattle.elf_model.specs.declared.refusals.Limit.{Limit}
+use Rattle.elf_model.specs.declared.refusals.TheConstants.Limit.{INPUT}
 use Rattle.elf_model.specs.Constants.{progbits, note, arm_attributes, nobits, rel, rela, group, symtab_shndx}
 use Rattle.elf_model.specs.Fields.{same_name}
 use Rattle.elf_model.specs.Maps.{map_name}
-use Rattle.elf_model.specs.Objects.{ObjectParts, is_section, is_name, is_dropped_name, is_alignment, is_kept_kind, is_alloc, is_writable, is_exec}
+use Rattle.elf_model.specs.Objects.{ObjectParts, is_section, is_name, is_dropped_name, is_alignment, is_kept_kind, is_alloc, is_writable, is_exec, is_memory_kind}
 use Rattle.elf_model.specs.Files.{header, header_count, section_name, is_table, is_refused_kind, is_dropped}
 use Rattle.elf_model.specs.Canonical.{FileSection, file_sections, own_section, section_names}
 use Rattle.elf_model.proofs.FieldsRead.{IsHeader as Fields}
@@ -20,7 +21,7 @@ use Rattle.elf_model.proofs.Strings.{has_no_nul}
 use Rattle.elf_model.proofs.Written.{ObjectFacts, each_named}
 use Rattle.elf_model.proofs.Headers.{Reading, head, header_total, name_found, table_behind}
 use Rattle.elf_model.proofs.Kept.{own_kept}
-use Rattle.elf_read.specs.Faults.{IsHeader, is_input_limit, is_memory_kind, is_map, dropped_count}
+use Rattle.elf_read.specs.Faults.{IsHeader, is_map, dropped_count}
 use Rattle.elf_read.specs.Written.{Meets}
 
 pub record IsSound (l : Limit) (s : FileSection) : Type 0 where
@@ -30,7 +31,7 @@ pub record IsSound (l : Limit) (s : FileSection) : Type 0 where
   pub code : is_exec s.flags ≡ true → is_writable s.flags ≡ true → ⊥
   pub filled : is_exec s.flags ≡ true → s.kind ≡ nobits → ⊥
   pub no_nul : s.kind ≢ rel → has_no_nul s.name ≡ true
-  pub no_map : is_input_limit l ≡ true → s.kind ≢ rel → s.name ≢ map_name
+  pub no_map : l ≡ INPUT → s.kind ≢ rel → s.name ≢ map_name
 
 neither : (t : Bool) → cond t false false ≡ true → ⊥
 neither true h = false≢true h
@@ -47,7 +48,7 @@ kept_handled kind flags h =
 kept_memory : (kind flags : ℕ) → is_kept_kind kind flags ≡ true → is_alloc flags ≡ true → is_memory_kind kind ≡ true
 kept_memory kind flags h m = ap (λ (t : Bool). if t then is_memory_kind kind else list_any (λ k. kind == k) (progbits ∷ note ∷ arm_attributes ∷ [])) (sym m) ∙ h
 
-own_sound : (l : Limit) (s : Section) → is_section s ≡ true → (is_input_limit l ≡ true → s.name ≢ map_name) → IsSound l (own_section s)
+own_sound : (l : Limit) (s : Section) → is_section s ≡ true → (l ≡ INPUT → s.name ≢ map_name) → IsSound l (own_section s)
 own_sound l s h n =
     let a = and_parts (is_name s.name && not (is_dropped_name s.name) && is_alignment s.align && is_kept_kind s.kind s.flags && not (is_writable s.flags && is_exec s.flags) && not (is_exec s.flags && (s.kind == nobits))) (length s.bytes == (if s.kind == nobits then 0 else s.size)) h in
     let b = and_parts (is_name s.name && not (is_dropped_name s.name) && is_alignment s.align && is_kept_kind s.kind s.flags && not (is_writable s.flags && is_exec s.flags)) (not (is_exec s.flags && (s.kind == nobits))) a.0 in
@@ -104,7 +105,7 @@ module _ (o : ObjectParts) (b : List ℕ) (r : Reading o b) (l : Limit) (m : Mee
   pub no_empty_code : (h : ℕ) → IsHeader b h → is_exec (header b h).flags ≡ true → (header b h).kind ≡ nobits → ⊥
   no_empty_code h i x k = let f = found h i in f.sound.filled (sym (ap is_exec f.fields.flags) ∙ x) (sym f.fields.kind ∙ k)
 
-  pub no_own_map : (h : ℕ) → IsHeader b h → is_input_limit l ≡ true → is_map b h ≡ true → ⊥
+  pub no_own_map : (h : ℕ) → IsHeader b h → l ≡ INPUT → is_map b h ≡ true → ⊥
   no_own_map h i y t =
       let f = found h i in
       let p = i.behind_null in

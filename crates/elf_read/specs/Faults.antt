@@ -1,20 +1,18 @@
 -- Each fault of a file, with its place: the number of a section header, and the offset of a field in the file.
-use Rattle.std.specs.Prelude.{◌≡◌, ◌≢◌, ◌<◌, ◌≤◌, ◌⊎◌, ℕ, ◌+◌, ◌-◌, ◌*◌, ◌/◌, ◌%◌, ◌^◌, ◌==◌, ◌&&◌, ◌||◌, not, Bool, true, false, List, [], ◌∷◌, length, take, filter, sum_by, if◌then◌else◌}
-use Rattle.std.specs.List.{list_any}
+use Rattle.std.specs.Prelude.{◌≡◌, ◌≢◌, ◌<◌, ◌≤◌, ◌⊎◌, ℕ, ◌+◌, ◌-◌, ◌*◌, ◌/◌, ◌%◌, ◌^◌, ◌==◌, ◌&&◌, ◌||◌, not, Bool, true, false, List, [], ◌∷◌, length, take, filter, sum_by, if◌then◌else◌, ⊤}
 use Rattle.elf_model.specs.declared.refusals.Refusal.{Refusal}
 use Rattle.elf_model.specs.declared.refusals.Refusal.TheVariants.{NotElf, NotArmRel, BadTable, BadName, BadSymbol, BadReloc, TooMany, SectionKind}
 use Rattle.elf_model.specs.declared.refusals.Limit.{Limit}
+use Rattle.elf_model.specs.declared.refusals.TheConstants.Limit.{INPUT}
 use Rattle.elf_model.specs.declared.refusals.Spot.{Spot}
-use Rattle.elf_model.specs.Constants.{progbits, symtab, strtab, rel, nobits, init_array, fini_array, undefined_index, absolute_index, local, func}
+use Rattle.elf_model.specs.declared.refusals.Deny.{Deny}
+use Rattle.elf_model.specs.declared.refusals.Deny.TheVariants.{NoMemory, Refused}
+use Rattle.elf_model.specs.Constants.{symtab, strtab, rel, nobits, undefined_index, absolute_index, local, func}
 use Rattle.elf_model.specs.Refusals.{number_of}
 use Rattle.elf_model.specs.Fields.{byte_at, half_at, word_at, same_name}
-use Rattle.elf_model.specs.Objects.{is_alloc, is_writable, is_exec, is_alignment}
+use Rattle.elf_model.specs.Objects.{is_alloc, is_writable, is_exec, is_code_kind, is_memory_kind, is_alignment, code_width}
 use Rattle.elf_model.specs.Files.{from, header_count, header_place, header, headers, IsKind, EndsAt, section_name, is_table, is_refused_kind, is_dropped, is_kept}
 use Rattle.elf_model.specs.Maps.{map_name}
-
--- the limit of `harden`
-abbrev pub is_input_limit : Limit → Bool
-is_input_limit l = (l.file == 1048576) && (l.sections == 256) && (l.symbols == 16384) && (l.relocs == 65536) && (l.code == 65536)
 
 pub record IsHeader (b : List ℕ) (h : ℕ) : Type 0 where
   pub behind_null : 0 < h
@@ -50,10 +48,6 @@ pub record IsKeptSymbol (b : List ℕ) (k : ℕ) : Type 0 where
   pub stands : IsSymbolAt b table k e
   pub home : (names_no_section (half_at b (e + 14)) ≡ true) ⊎ (is_kept b (half_at b (e + 14)) ≡ true)
 
--- bytes that a relocation of a type changes
-abbrev pub reloc_width : ℕ → ℕ
-reloc_width code = if (code == 102) || (code == 103) then 2 else 4
-
 -- a symbol's value, bit 0 of a function's not counted
 abbrev pub place_of : ℕ → ℕ → ℕ
 place_of kind value = if kind == func then value - value % 2 else value
@@ -63,14 +57,10 @@ abbrev pub relocs_up_to : List ℕ → ℕ → ℕ
 relocs_up_to b h = sum_by (λ k. (header b k).size / 8) (filter (λ k. ((header b k).kind == rel) && is_kept b (header b k).info) (from 1 h))
 
 abbrev pub is_code_header : List ℕ → ℕ → Bool
-is_code_header b h = ((header b h).kind == progbits) && is_alloc (header b h).flags && is_exec (header b h).flags && is_kept b h
+is_code_header b h = is_code_kind (header b h).kind (header b h).flags && is_kept b h
 
 abbrev pub code_up_to : List ℕ → ℕ → ℕ
 code_up_to b h = sum_by (λ k. (header b k).size) (filter (is_code_header b) (from 1 h))
-
--- the kinds of sections in memory that are handled
-abbrev pub is_memory_kind : ℕ → Bool
-is_memory_kind kind = list_any (λ k. kind == k) (progbits ∷ nobits ∷ init_array ∷ fini_array ∷ [])
 
 -- a section of an address map; the names of relocation sections are not looked at
 abbrev pub is_map : List ℕ → ℕ → Bool
@@ -114,7 +104,7 @@ pub data Fault (b : List ℕ) (l : Limit) : Refusal → ℕ → ℕ → Type 0 w
       (header b (half_at b (e + 14))).size < place_of (byte_at b (e + 12) % 16) (word_at b (e + 4)) → Fault b l BadSymbol t (e + 4)
   -- a relocation of a section that is kept
   bad_symbol : (h j r : ℕ) → IsRelocAt b h j r → word_at b (r + 4) % 256 ≢ 0 → (IsKeptSymbol b (word_at b (r + 4) / 256) → ⊥) → Fault b l BadReloc h (r + 4)
-  bad_place : (h j r : ℕ) → IsRelocAt b h j r → (header b (header b h).info).size < word_at b r + reloc_width (word_at b (r + 4) % 256) → Fault b l BadReloc h r
+  bad_place : (h j r : ℕ) → IsRelocAt b h j r → (header b (header b h).info).size < word_at b r + code_width (word_at b (r + 4) % 256) → Fault b l BadReloc h r
   second_place : (g i q h j r : ℕ) → (g < h) ⊎ ((g ≡ h) × (i < j)) → IsRelocAt b g i q → IsRelocAt b h j r → (header b g).info ≡ (header b h).info → word_at b q ≡ word_at b r → Fault b l BadReloc h r
   nobits_target : (h : ℕ) → IsKind b h rel → is_kept b (header b h).info ≡ true → (header b (header b h).info).kind ≡ nobits → Fault b l BadReloc h (header_place b h + 28)
   -- more than the limit
@@ -127,7 +117,7 @@ pub data Fault (b : List ℕ) (l : Limit) : Refusal → ℕ → ℕ → Type 0 w
   memory_kind : (h : ℕ) → IsHeader b h → is_alloc (header b h).flags ≡ true → is_memory_kind (header b h).kind ≡ false → ((is_table (header b h).kind ≡ true) ⊎ (is_dropped b h ≡ false)) → Fault b l SectionKind h (header_place b h + 4)
   writable_code : (h : ℕ) → IsHeader b h → is_exec (header b h).flags ≡ true → is_writable (header b h).flags ≡ true → Fault b l SectionKind h (header_place b h + 8)
   empty_code : (h : ℕ) → IsHeader b h → is_exec (header b h).flags ≡ true → (header b h).kind ≡ nobits → Fault b l SectionKind h (header_place b h + 8)
-  own_map : (h : ℕ) → IsHeader b h → is_input_limit l ≡ true → is_map b h ≡ true → Fault b l SectionKind h (header_place b h)
+  own_map : (h : ℕ) → IsHeader b h → l ≡ INPUT → is_map b h ≡ true → Fault b l SectionKind h (header_place b h)
 
 -- The lowest number comes first, then the lowest section, then the lowest offset.
 abbrev pub ComesBefore : Refusal → ℕ → ℕ → Spot → Type 0
@@ -148,6 +138,7 @@ IsFaultless b l = (r : Refusal) (section offset : ℕ) → Fault b l r section o
 abbrev pub dropped_count : List ℕ → ℕ
 dropped_count b = length (filter (λ h. not (is_table (header b h).kind) && is_dropped b h) (headers b))
 
--- no fault with a number below n
-abbrev pub IsFaultlessBelow : List ℕ → Limit → ℕ → Type 0
-IsFaultlessBelow b l n = (r : Refusal) (section offset : ℕ) → number_of r < n → Fault b l r section offset → ⊥
+-- What comes in an object's place; memory may run out at any time.
+abbrev pub IsDeniedFor : List ℕ → Limit → Deny → Type 0
+IsDeniedFor b l NoMemory = ⊤
+IsDeniedFor b l (Refused spot) = IsFirstFault b l spot

@@ -4,9 +4,9 @@ use Rattle.std.specs.List.{slice_index_or}
 use Rattle.elf_model.specs.declared.refusals.Limit.{Limit}
 use Rattle.elf_model.specs.Constants.{symtab, rel, nobits}
 use Rattle.elf_model.specs.Fields.{half_at, word_at}
-use Rattle.elf_model.specs.Objects.{is_alloc, is_exec, is_writable}
+use Rattle.elf_model.specs.Objects.{is_alloc, is_exec, is_writable, is_memory_kind}
 use Rattle.elf_model.specs.Files.{header, header_count, is_table, is_dropped, is_refused_kind, headers, is_kept, is_kept_symbol, symbol_places, symbol_table}
-use Rattle.elf_read.specs.Faults.{IsSymbolAt, IsRelocAt, IsKeptSymbol, names_no_section, is_code_header, is_memory_kind, is_map}
+use Rattle.elf_read.specs.Faults.{IsSymbolAt, IsRelocAt, IsKeptSymbol, names_no_section, is_code_header, is_map}
 
 -- for each header whether its section is kept; the null header is not
 abbrev pub kept_flags : List ℕ → List Bool

@@ -1,5 +1,10 @@
-pub mod Formats
+-- What is promised: of files their faults and which one is told, of maps when there is none, of objects when their
+-- written file has no fault.
 pub mod Faults
+pub mod MapRefusals
+pub mod Written
+-- Helpers, which follow the reader's steps: what its parts find, test by test.
+pub mod Formats
 pub mod Headers
 pub mod Keeping
 pub mod Places
@@ -8,5 +13,4 @@ pub mod RelocFaults
 pub mod Texts
 pub mod SymbolFaults
 pub mod FirstFaults
-pub mod Written
 pub mod MapRows

@@ -1,75 +1,25 @@
--- The rows of an object's address map, and when there are none.
-use Rattle.std.specs.Prelude.{◌≡◌, ◌<◌, ◌+◌, ◌%◌, ◌^◌, ◌++◌, ◌==◌, nat_lt, ◌&&◌, ◌||◌, ◌⊎◌, ℕ, Bool, true, List, [], ◌∷◌, length, drop, get_or, filter, All, Option, Some, None, ⊤, if◌then◌else◌}
-use Rattle.std.specs.List.{list_all, flat_map}
+-- The tests that find an object's address map and its rows.
+use Rattle.std.specs.Prelude.{◌≡◌, ◌<◌, ◌+◌, ◌%◌, ◌++◌, ◌==◌, nat_lt, ◌&&◌, ◌||◌, ℕ, Bool, true, List, [], ◌∷◌, length, drop, get_or, filter, Option, Some, None, if◌then◌else◌}
+use Rattle.std.specs.List.{list_all}
 use Rattle.elf_model.specs.declared.objects.Section.{Section}
 use Rattle.elf_model.specs.declared.objects.MapRow.{MapRow}
 use Rattle.elf_model.specs.declared.objects.RowKind.{RowKind}
 use Rattle.elf_model.specs.declared.objects.RowKind.TheVariants.{Start, Return}
-use Rattle.elf_model.specs.declared.refusals.Refusal.TheVariants.{SectionKind}
-use Rattle.elf_model.specs.declared.refusals.Deny.{Deny}
-use Rattle.elf_model.specs.declared.refusals.Deny.TheVariants.{NoMemory, Refused}
 use Rattle.elf_model.specs.Constants.{progbits}
-use Rattle.elf_model.specs.Fields.{same_name}
-use Rattle.elf_model.specs.Maps.{map_name, row_bytes, row_kind}
-use Rattle.elf_model.specs.Objects.{ObjectParts}
-
--- the rows rise strictly by section, old offset and kind
-pub record IsBefore (a b : MapRow) : Type 0 where
-  pub before : (a.section < b.section) ⊎ ((a.section ≡ b.section) × ((a.old < b.old) ⊎ ((a.old ≡ b.old) × (row_kind a.kind < row_kind b.kind))))
-
-abbrev pub Rise : List MapRow → Type 0
-Rise [] = Unit {0}
-Rise (r ∷ rest) = All (IsBefore r) rest × Rise rest
-
--- each number of a row fits its word
-pub record IsFit (r : MapRow) : Type 0 where
-  pub section : r.section < 2 ^ 32
-  pub old : r.old < 2 ^ 32
-  pub new : r.new < 2 ^ 32
-
--- bytes that are rows
-pub record AreRows (b : List ℕ) (rows : List MapRow) : Type 0 where
-  pub bytes : b ≡ flat_map row_bytes rows
-  pub fit : All IsFit rows
-
--- a section of a map has this name
-abbrev pub is_named : Section → Bool
-is_named s = same_name s.name map_name
-
--- Exactly one section has the name of a map, and its bytes are these rows.
-pub record IsMapOf (o : ObjectParts) (rows : List MapRow) : Type 0 where
-  pub section : Section
-  pub there : filter is_named o.sections ≡ section ∷ []
-  pub kind : section.kind ≡ progbits
-  pub flags : section.flags ≡ 0
-  pub entry : section.entry ≡ 16
-  pub are_rows : AreRows section.bytes rows
-  pub rise : Rise rows
-
-abbrev pub HasNoMap : ObjectParts → Type 0
-HasNoMap o = (rows : List MapRow) → IsMapOf o rows → ⊥
+use Rattle.elf_model.specs.Maps.{row_bytes, row_kind, RowFits, AreRows, is_map_named}
 
 abbrev pub HasNoRows : List ℕ → Type 0
 HasNoRows b = (rows : List MapRow) → AreRows b rows → ⊥
-
--- the refusal of an object without a map
-abbrev pub map_spot : Deny
-map_spot = Refused (record { refusal = SectionKind; file = 0; section = 0; offset = 0 })
-
--- what comes in place of rows, only for this reason; memory may run out at any time
-abbrev pub IsDenied : Type 0 → Deny → Type 0
-IsDenied P NoMemory = ⊤
-IsDenied P (Refused spot) = (Refused spot ≡ map_spot) × P
 
 -- the first section from a number on that has the name
 pub record IsNextAt (xs : List Section) (first k : ℕ) : Type 0 where
   pub s : Section
   pub inside : k < length xs
   pub there : (d : Section) → get_or xs k d ≡ s
-  pub rest : filter is_named (drop first xs) ≡ s ∷ filter is_named (drop (k + 1) xs)
+  pub rest : filter is_map_named (drop first xs) ≡ s ∷ filter is_map_named (drop (k + 1) xs)
 
 abbrev pub IsNext : List Section → ℕ → Option ℕ → Type 0
-IsNext xs first None = filter is_named (drop first xs) ≡ []
+IsNext xs first None = filter is_map_named (drop first xs) ≡ []
 IsNext xs first (Some k) = IsNextAt xs first k
 
 -- the one section that has the name
@@ -77,22 +27,22 @@ pub record IsOnlyAt (xs : List Section) (k : ℕ) : Type 0 where
   pub s : Section
   pub inside : k < length xs
   pub there : (d : Section) → get_or xs k d ≡ s
-  pub one : filter is_named xs ≡ s ∷ []
+  pub one : filter is_map_named xs ≡ s ∷ []
 
 abbrev pub IsOnly : List Section → Option ℕ → Type 0
-IsOnly xs None = (s : Section) → filter is_named xs ≡ s ∷ [] → ⊥
+IsOnly xs None = (s : Section) → filter is_map_named xs ≡ s ∷ [] → ⊥
 IsOnly xs (Some k) = IsOnlyAt xs k
 
 abbrev pub is_plain : Section → Bool
 is_plain s = (s.kind == progbits) && (s.flags == 0) && (s.entry == 16) && (length s.bytes % 16 == 0)
 
-abbrev pub kind_of : ℕ → Option RowKind
-kind_of code = if code == 0 then Some Start else if code == 1 then Some Return else None
+abbrev pub row_kind_of : ℕ → Option RowKind
+row_kind_of code = if code == 0 then Some Start else if code == 1 then Some Return else None
 
 -- a row that stands at a place
 pub record IsRow (b : List ℕ) (at : ℕ) (r : MapRow) : Type 0 where
   pub bytes : drop at b ≡ row_bytes r ++ drop (at + 16) b
-  pub fit : IsFit r
+  pub fit : RowFits r
 
 abbrev pub IsRowAt : List ℕ → ℕ → Option MapRow → Type 0
 IsRowAt b at None = (r : MapRow) (rest : List ℕ) → drop at b ≡ row_bytes r ++ rest → ⊥

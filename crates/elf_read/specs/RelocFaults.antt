@@ -5,9 +5,10 @@ use Rattle.std.specs.Ordering.{nat_cmp, ordering_then}
 use Rattle.std.specs.BTreeSet.{BTreeSet, contains}
 use Rattle.elf_model.specs.Constants.{rel, nobits}
 use Rattle.elf_model.specs.Fields.{word_at}
+use Rattle.elf_model.specs.Objects.{code_width}
 use Rattle.elf_model.specs.Files.{header, header_place, is_kept, IsKind}
 use Rattle.elf_read.specs.declared.places.Place.{Place}
-use Rattle.elf_read.specs.Faults.{IsRelocAt, IsKeptSymbol, reloc_width}
+use Rattle.elf_read.specs.Faults.{IsRelocAt, IsKeptSymbol}
 use Rattle.elf_read.specs.Keeping.{flag_at}
 
 -- a relocation before entry j of header h changes this place
@@ -32,7 +33,7 @@ pub record AreTaken (b : List ℕ) (h j : ℕ) (taken : BTreeSet (ℕ × ℕ)) :
 pub record BadEntry (b : List ℕ) (h j o : ℕ) : Type 0 where
   pub r : ℕ
   pub stands : IsRelocAt b h j r
-  pub wrong : ((o ≡ r) × (((header b (header b h).info).size < word_at b r + reloc_width (word_at b (r + 4) % 256)) ⊎ IsEarlier b h j (header b h).info (word_at b r)))
+  pub wrong : ((o ≡ r) × (((header b (header b h).info).size < word_at b r + code_width (word_at b (r + 4) % 256)) ⊎ IsEarlier b h j (header b h).info (word_at b r)))
       ⊎ ((o ≡ r + 4) × (word_at b (r + 4) % 256 ≢ 0) × (IsKeptSymbol b (word_at b (r + 4) / 256) → ⊥))
 
 pub data RelocFault (b : List ℕ) (h o : ℕ) : Type 0 where
@@ -53,6 +54,6 @@ IsLowestIn P h (Some p) = (p.section ≡ h) × P p.offset × ((o : ℕ) → P o 
 -- An entry's tests, by their offset from its start; `added`: no relocation before changes its place.
 abbrev pub entry_tests : List ℕ → ℕ → List Bool → Bool → ℕ → List (ℕ × Bool)
 entry_tests b room symbols added r =
-    (0, not added || not (nat_le (word_at b r + reloc_width (word_at b (r + 4) % 256)) room))
+    (0, not added || not (nat_le (word_at b r + code_width (word_at b (r + 4) % 256)) room))
     ∷ (4, not ((word_at b (r + 4) % 256 == 0) || flag_at symbols (word_at b (r + 4) / 256)))
     ∷ []

@@ -1,11 +1,11 @@
 -- The objects whose written file a limit lets through.
-use Rattle.std.specs.Prelude.{◌≡◌, ◌≢◌, ◌≤◌, ◌+◌, true, length, All}
+use Rattle.std.specs.Prelude.{◌≡◌, ◌≢◌, ◌≤◌, ◌+◌, length, All}
 use Rattle.elf_model.specs.declared.objects.Section.{Section}
 use Rattle.elf_model.specs.declared.refusals.Limit.{Limit}
+use Rattle.elf_model.specs.declared.refusals.TheConstants.Limit.{INPUT}
 use Rattle.elf_model.specs.Objects.{ObjectParts, code_size}
 use Rattle.elf_model.specs.Canonical.{file_sections}
 use Rattle.elf_model.specs.Maps.{map_name}
-use Rattle.elf_read.specs.Faults.{is_input_limit}
 
 -- No more of anything than the limit says, the null header and the tables counted among the headers;
 -- and no address map under the limit of `harden`.
@@ -14,4 +14,4 @@ pub record Meets (o : ObjectParts) (l : Limit) : Type 0 where
   pub symbols : length o.symbols ≤ l.symbols
   pub relocs : length o.relocs ≤ l.relocs
   pub code : code_size o.sections ≤ l.code
-  pub no_map : is_input_limit l ≡ true → All (λ (s : Section). s.name ≢ map_name) o.sections
+  pub no_map : l ≡ INPUT → All (λ (s : Section). s.name ≢ map_name) o.sections

@@ -4,7 +4,7 @@ ghost use Rattle.std.specs.Prelude.{◌≡◌, ◌≢◌, ◌<◌, ◌≤◌, �
 ghost use Rattle.std.specs.List.Sorted.{IsSortedByKey};
 ghost use Rattle.elf_model.specs.Constants.{nobits};
 ghost use Rattle.elf_model.specs.Fields.{half_at, word_at};
-ghost use Rattle.elf_model.specs.Files.{from, header, header_count, entries_of, is_kept, is_kept_symbol, section_of, kept_headers, symbol_table, symbol_of, kept_symbols, home_of, contents, reloc_kind, reloc_of, reloc_entries};
+ghost use Rattle.elf_model.specs.Files.{from, header, header_count, entries_of, is_kept, is_kept_symbol, section_of, kept_headers, symbol_table, symbol_of, kept_symbols, home_of, contents, reloc_of, reloc_entries};
 ghost use Rattle.elf_read.specs.Faults.{IsHeader, IsRelocAt};
 ghost use Rattle.elf_read.specs.HeaderFaults.{IsTabled};
 ghost use Rattle.elf_read.specs.Keeping.{kept_flags, symbol_flags, AreCounts, HasHomes, HasSymbols, is_kept_relocs, is_some_reloc};
@@ -15,7 +15,7 @@ use crate::keeping::{is_kept_symbol, kept_at, section_name, text_at};
 use crate::limits::is_kept_relocs;
 use crate::names::symtab_of;
 use crate::strings::contents;
-use crate::tables::NOBITS;
+use elf_model::numbers::{ABSOLUTE_INDEX, NOBITS, UNDEFINED_INDEX};
 use elf_model::{Bytes, Home, Name, Reloc, RelocKind, Section, Symbol};
 use std::alloc::{AllocError, Global};
 
@@ -93,7 +93,7 @@ pub(crate) fn sections(
 }
 
 /// The number at a place of a table of numbers.
-fn number(numbers: &[u32], k: usize) -> u32
+fn number_at(numbers: &[u32], k: usize) -> u32
     ensures { result ≡ slice_index numbers.now k }
 {
     if k < numbers.len() { numbers[k] } else { 0 }
@@ -106,13 +106,13 @@ fn home_of(bytes: &[u8], e: usize, numbers: &[u32]) -> Home
     requires numbers { AreCounts (kept_flags bytes.now) numbers.now }
     ensures { result ≡ home_of bytes.now (half_at bytes.now (e + 14)) }
 {
-    let index = half(bytes, e + 14) as usize;
-    if index == 0 {
+    let index = half(bytes, e + 14);
+    if index == UNDEFINED_INDEX {
         Home::Undefined
-    } else if index == 0xFFF1 {
+    } else if index == ABSOLUTE_INDEX {
         Home::Absolute
     } else {
-        Home::Section(number(numbers, index))
+        Home::Section(number_at(numbers, index as usize))
     }
 }
 
@@ -220,24 +220,6 @@ pub(crate) fn symbols(
     Ok(symbols)
 }
 
-/// The kind of relocation with a code.
-fn reloc_kind(code: u8) -> RelocKind
-    ensures { result ≡ reloc_kind code }
-{
-    match code {
-        2 => RelocKind::Abs32,
-        38 => RelocKind::Target1,
-        10 => RelocKind::ThmCall,
-        30 => RelocKind::ThmJump24,
-        47 => RelocKind::MovwAbs,
-        48 => RelocKind::MovtAbs,
-        51 => RelocKind::ThmJump19,
-        102 => RelocKind::ThmJump11,
-        103 => RelocKind::ThmJump8,
-        _ => RelocKind::Other(code),
-    }
-}
-
 /// The relocation that stands at a place of the file.
 fn reloc_at(bytes: &[u8], h: usize, r: usize, numbers: &[u32], symbols: &[u32]) -> Reloc
     requires tabled { IsTabled bytes.now }
@@ -251,10 +233,10 @@ fn reloc_at(bytes: &[u8], h: usize, r: usize, numbers: &[u32], symbols: &[u32]) 
 {
     let info = word(bytes, r + 4);
     Reloc {
-        section: number(numbers, header_at(bytes, h).info as usize),
+        section: number_at(numbers, header_at(bytes, h).info as usize),
         offset: word(bytes, r),
-        kind: reloc_kind((info % 256) as u8),
-        symbol: number(symbols, info as usize / 256),
+        kind: RelocKind::of_code((info % 256) as u8),
+        symbol: number_at(symbols, info as usize / 256),
     }
 }
 

@@ -11,9 +11,10 @@ ghost use Rattle.elf_read.specs.HeaderFaults.{IsTabled};
 ghost use Rattle.elf_read.specs.Faults.{IsHeader};
 
 use crate::headers::{count, half, header_at};
-use crate::kinds::{ARM_EXIDX, is_alloc, is_dropped_name, is_kept_kind, is_refused_kind, is_table};
 use crate::names::symtab_of;
 use crate::strings::contents;
+use elf_model::numbers::{ABSOLUTE_INDEX, ARM_EXIDX, UNDEFINED_INDEX};
+use elf_model::{is_alloc, is_dropped_name, is_kept_kind, is_refused_kind, is_table};
 use std::alloc::{AllocError, Global};
 
 /// The text up to a NUL, or all of it where there is none.
@@ -155,8 +156,8 @@ pub(crate) fn is_kept_symbol(bytes: &[u8], kept: &[bool], e: usize) -> bool
     requires kept { kept.now ≡ kept_flags bytes.now }
     ensures { result ≡ is_kept_symbol bytes.now e }
 {
-    let index = half(bytes, e + 14) as usize;
-    index == 0 || index == 0xFFF1 || flag(kept, index)
+    let index = half(bytes, e + 14);
+    index == UNDEFINED_INDEX || index == ABSOLUTE_INDEX || flag(kept, index as usize)
 }
 
 fn push_symbol_flags(

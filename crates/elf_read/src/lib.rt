@@ -3,14 +3,12 @@
 
 ghost use Rattle.std.specs.Prelude.{◌≡◌, ◌<◌, ◌^◌, length, IfOk, IfErr, OnOk};
 ghost use Rattle.elf_model.specs.Files.{StandsFor};
-ghost use Rattle.elf_read.specs.Faults.{IsFaultless, dropped_count};
-ghost use Rattle.elf_read.specs.FirstFaults.{IsDeniedFor};
+ghost use Rattle.elf_read.specs.Faults.{IsFaultless, dropped_count, IsDeniedFor};
 
 mod building;
 mod format;
 mod headers;
 mod keeping;
-mod kinds;
 mod laws;
 mod limits;
 mod malformed;
@@ -27,7 +25,7 @@ mod whole;
 
 use elf_model::{Deny, Limit, Object};
 use keeping::{kept_flags, symbol_flags};
-pub use laws::written_files_are_faultless;
+pub use laws::{object_has_one_map, written_files_are_faultless};
 use malformed::first_malformed;
 pub use maps::read_map;
 use std::alloc::Global;

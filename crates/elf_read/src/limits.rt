@@ -2,8 +2,7 @@
 
 ghost use Rattle.std.specs.Prelude.{◌≡◌, ◌<◌, ◌^◌, ℕ, length, ◌&&◌, ◌==◌};
 ghost use Rattle.elf_model.specs.declared.refusals.Refusal.TheVariants.{TooMany};
-ghost use Rattle.elf_model.specs.Constants.{progbits, rel};
-ghost use Rattle.elf_model.specs.Objects.{is_alloc, is_exec};
+ghost use Rattle.elf_model.specs.Constants.{rel};
 ghost use Rattle.elf_model.specs.Files.{header, header_count, is_kept};
 ghost use Rattle.elf_read.specs.Faults.{Fault, IsHeader, is_code_header};
 ghost use Rattle.elf_read.specs.HeaderFaults.{IsTabled};
@@ -12,10 +11,9 @@ ghost use Rattle.elf_read.specs.Places.{IsLowest};
 
 use crate::headers::{count, header_at, place};
 use crate::keeping::kept_at;
-use crate::kinds::{PROGBITS, is_alloc, is_exec};
 use crate::places::Place;
-use crate::tables::{REL, SYMTAB};
-use elf_model::Limit;
+use elf_model::numbers::{REL, SYMTAB};
+use elf_model::{Limit, is_code_kind};
 
 /// Whether a header is one of relocations of a section that is kept.
 pub(crate) fn is_kept_relocs(bytes: &[u8], kept: &[bool], h: usize) -> bool
@@ -42,12 +40,6 @@ fn relocs_at(bytes: &[u8], kept: &[bool], h: usize) -> u32
     }
 }
 
-fn is_code(kind: u32, flags: u32) -> bool
-    ensures { result ≡ ((kind == progbits) && is_alloc flags && is_exec flags) }
-{
-    kind == PROGBITS && is_alloc(flags) && is_exec(flags)
-}
-
 /// Whether a header is one of code that is kept.
 fn is_code_header(bytes: &[u8], kept: &[bool], h: usize) -> bool
     requires tabled { IsTabled bytes.now }
@@ -56,7 +48,7 @@ fn is_code_header(bytes: &[u8], kept: &[bool], h: usize) -> bool
     ensures { result ≡ is_code_header bytes.now h }
 {
     let header = header_at(bytes, h);
-    is_code(header.kind, header.flags) && kept_at(bytes, kept, h)
+    is_code_kind(header.kind, header.flags) && kept_at(bytes, kept, h)
 }
 
 /// How many bytes of code a header has.

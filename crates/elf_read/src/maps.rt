@@ -1,16 +1,14 @@
 //! The rows of the address map of an object that was hardened.
 
 ghost use Rattle.std.specs.Prelude.{◌≡◌, ◌≤◌, ◌+◌, ◌%◌, ℕ, length, IfOk, IfErr};
-ghost use Rattle.elf_model.specs.Maps.{row_kind};
-ghost use Rattle.elf_model.specs.Fields.{same_name};
-ghost use Rattle.elf_model.specs.Maps.{map_name};
-ghost use Rattle.elf_read.specs.MapRows.{AreRows, HasNoMap, HasNoRows, IsDenied, IsMapOf, IsNext, IsOnly, IsRowAt, is_before, is_plain, kind_of, map_spot, may_come, rising};
+ghost use Rattle.elf_model.specs.Maps.{row_kind, AreRows, HasMap, is_map_named};
+ghost use Rattle.elf_read.specs.MapRefusals.{HasNoMap, IsDenied, map_spot};
+ghost use Rattle.elf_read.specs.MapRows.{HasNoRows, IsNext, IsOnly, IsRowAt, is_before, is_plain, row_kind_of, may_come, rising};
 
 use crate::headers::word;
+use elf_model::numbers::PROGBITS;
 use elf_model::{Deny, MapRow, Object, Refusal, RowKind, Section, Spot};
 use std::alloc::Global;
-
-const PROGBITS: u32 = 1;
 
 /// What an object is refused for that has no map.
 fn refused() -> Deny
@@ -25,7 +23,7 @@ fn refused() -> Deny
 }
 
 fn is_named(s: &Section) -> bool
-    ensures { result ≡ same_name s.now.name map_name }
+    ensures { result ≡ is_map_named s.now }
 {
     s.name.bytes() == b".skipguard.map".as_slice()
 }
@@ -63,8 +61,8 @@ fn is_plain(s: &Section) -> bool
 }
 
 /// The kind of a row with a code.
-fn kind_of(code: u32) -> Option<RowKind>
-    ensures { result ≡ kind_of code }
+fn row_kind_of(code: u32) -> Option<RowKind>
+    ensures { result ≡ row_kind_of code }
 {
     if code == 0 {
         return Some(RowKind::Start);
@@ -80,7 +78,7 @@ fn row_at(bytes: &[u8], at: usize) -> Option<MapRow>
     requires inside { at + 16 ≤ length bytes.now }
     ensures { IsRowAt bytes.now at result }
 {
-    let Some(kind) = kind_of(word(bytes, at + 12)) else {
+    let Some(kind) = row_kind_of(word(bytes, at + 12)) else {
         return None;
     };
     Some(MapRow {
@@ -149,7 +147,7 @@ fn rise(rows: &[MapRow]) -> bool
 
 /// The rows of an object's address map, or a refusal where it has none.
 pub fn read_map(alloc: Global, o: &Object) -> Result<Vec<MapRow>, Deny>
-    ensures rows { IfOk result (λ rows. IsMapOf o.now rows.items) }
+    ensures rows { IfOk result (λ rows. HasMap o.now rows.items) }
     ensures refused { IfErr result (IsDenied (HasNoMap o.now)) }
 {
     let sections = o.sections();

@@ -12,7 +12,7 @@ ghost use Rattle.elf_read.specs.Texts.{IsUnnamed, IsUnnamedSymbol};
 use crate::headers::{count, half, header_at, place, word};
 use crate::places::{Place, lower};
 use crate::strings::has_text;
-use crate::tables::{REL, SYMTAB};
+use elf_model::numbers::{REL, SYMTAB};
 
 /// The header of the symbol table, if there is one.
 pub(crate) fn symtab_of(bytes: &[u8]) -> Option<usize>

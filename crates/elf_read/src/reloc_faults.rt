@@ -4,7 +4,8 @@ ghost use Rattle.std.specs.Prelude.{◌≡◌, ◌≤◌, ◌<◌, ◌+◌, ◌/
 ghost use Rattle.elf_model.specs.declared.refusals.Limit.{Limit};
 ghost use Rattle.elf_model.specs.declared.refusals.Refusal.TheVariants.{BadReloc};
 ghost use Rattle.elf_model.specs.Fields.{word_at};
-ghost use Rattle.elf_read.specs.Faults.{Fault, IsHeader, reloc_width};
+ghost use Rattle.elf_model.specs.Objects.{code_width};
+ghost use Rattle.elf_read.specs.Faults.{Fault, IsHeader};
 ghost use Rattle.elf_read.specs.HeaderFaults.{IsTabled};
 ghost use Rattle.elf_read.specs.Keeping.{kept_flags, symbol_flags, flag_at, is_kept_relocs, HasHomes};
 ghost use Rattle.elf_read.specs.Places.{IsLowest, first_of};
@@ -14,23 +15,18 @@ use crate::headers::{count, header_at, place, word};
 use crate::keeping::flag;
 use crate::limits::is_kept_relocs;
 use crate::places::{Place, lower};
-use crate::tables::NOBITS;
+use elf_model::code_width;
+use elf_model::numbers::NOBITS;
 use std::alloc::{AllocError, Global};
 use std::collections::BTreeSet;
-
-/// How many bytes a relocation with this code changes.
-fn reloc_width(code: u32) -> u32
-    ensures { result ≡ reloc_width code }
-{
-    if code == 102 || code == 103 { 2 } else { 4 }
-}
 
 /// Whether the relocation at a place of the file changes bytes of so many.
 fn is_placed(bytes: &[u8], r: usize, room: u32) -> bool
     requires { r + 8 ≤ length bytes.now }
-    ensures { result ≡ nat_le (word_at bytes.now r + reloc_width (word_at bytes.now (r + 4) % 256)) room }
+    ensures { result ≡ nat_le (word_at bytes.now r + code_width (word_at bytes.now (r + 4) % 256)) room }
 {
-    word(bytes, r) as u64 + reloc_width(word(bytes, r + 4) % 256) as u64 <= room as u64
+    let code = (word(bytes, r + 4) % 256) as u8;
+    word(bytes, r) as u64 + code_width(code) as u64 <= room as u64
 }
 
 /// Whether the relocation at a place of the file names a symbol that is kept, or needs none.

@@ -11,12 +11,7 @@ ghost use Rattle.elf_read.specs.SymbolFaults.{is_beyond, is_unknown, is_homeless
 use crate::headers::{count, half, header_at, word};
 use crate::names::symtab_of;
 use crate::places::Place;
-
-const ABSOLUTE: u16 = 0xFFF1;
-
-const LOCAL: u8 = 0;
-
-const FUNC: u8 = 2;
+use elf_model::numbers::{ABSOLUTE_INDEX, FUNC, LOCAL, UNDEFINED_INDEX};
 
 /// The first section index that stands for no section header.
 const RESERVED: u16 = 0xFF00;
@@ -25,7 +20,7 @@ const RESERVED: u16 = 0xFF00;
 pub(crate) fn names_no_section(index: u16) -> bool
     ensures { result ≡ names_no_section index }
 {
-    index == 0 || index == ABSOLUTE
+    index == UNDEFINED_INDEX || index == ABSOLUTE_INDEX
 }
 
 /// Where a symbol of a type stands: bit 0 of a function's value isn't counted.

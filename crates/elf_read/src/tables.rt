@@ -5,7 +5,6 @@ ghost use Rattle.elf_model.specs.declared.refusals.Limit.{Limit};
 ghost use Rattle.elf_model.specs.declared.refusals.Refusal.TheVariants.{BadTable};
 ghost use Rattle.elf_model.specs.Constants.{symtab, rel};
 ghost use Rattle.elf_model.specs.Files.{header_count};
-ghost use Rattle.elf_model.specs.Objects.{is_alignment};
 ghost use Rattle.elf_read.specs.Faults.{Fault};
 ghost use Rattle.elf_read.specs.HeaderFaults.{has_kind, is_target, is_outside, is_uneven, is_mislinked, is_astray, is_misaligned, is_missized, table_tests, header_tests};
 ghost use Rattle.elf_read.specs.Headers.{fields_of, HasHeaders};
@@ -13,14 +12,8 @@ ghost use Rattle.elf_read.specs.Places.{IsLowest, first_of};
 
 use crate::headers::{Header, count, half, header_at, place, word};
 use crate::places::Place;
-
-pub(crate) const SYMTAB: u32 = 2;
-
-pub(crate) const STRTAB: u32 = 3;
-
-pub(crate) const NOBITS: u32 = 8;
-
-pub(crate) const REL: u32 = 9;
+use elf_model::numbers::{NOBITS, REL, STRTAB, SYMTAB};
+use elf_model::{is_alignment, is_table};
 
 /// Whether a number is that of a header of a kind, and not of the null header.
 pub(crate) fn has_kind(bytes: &[u8], h: u32, kind: u32) -> bool
@@ -40,8 +33,7 @@ fn is_target(bytes: &[u8], h: u32) -> bool
     if h == 0 || count(bytes) <= h {
         return false;
     }
-    let kind = header_at(bytes, h).kind;
-    !(kind == SYMTAB || kind == STRTAB || kind == REL)
+    !is_table(header_at(bytes, h).kind)
 }
 
 fn is_outside(bytes: &[u8], f: &Header) -> bool
@@ -69,25 +61,6 @@ fn is_astray(bytes: &[u8], f: &Header) -> bool
     ensures { result ≡ is_astray bytes.now (fields_of f.now) }
 {
     f.kind == REL && !is_target(bytes, f.info)
-}
-
-/// Whether a number is a power of two up to 4,096.
-fn is_alignment(a: u32) -> bool
-    ensures { result ≡ is_alignment a }
-{
-    a == 1
-        || a == 2
-        || a == 4
-        || a == 8
-        || a == 16
-        || a == 32
-        || a == 64
-        || a == 128
-        || a == 256
-        || a == 512
-        || a == 1024
-        || a == 2048
-        || a == 4096
 }
 
 fn is_misaligned(f: &Header) -> bool

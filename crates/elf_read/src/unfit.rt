@@ -1,8 +1,7 @@
 //! The first fault of a file whose headers, names and symbols have none.
 
 ghost use Rattle.std.specs.Prelude.{◌≡◌, ◌<◌, ◌^◌, length, IfOk};
-ghost use Rattle.elf_read.specs.Faults.{IsFaultlessBelow};
-ghost use Rattle.elf_read.specs.FirstFaults.{IsFirstBelow};
+ghost use Rattle.elf_read.specs.FirstFaults.{IsFirstBelow, IsFaultlessBelow};
 ghost use Rattle.elf_read.specs.HeaderFaults.{IsTabled};
 ghost use Rattle.elf_read.specs.Keeping.{kept_flags, symbol_flags, HasHomes};
 

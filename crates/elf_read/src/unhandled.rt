@@ -1,31 +1,26 @@
 //! The first section of a kind that is not handled.
 
-ghost use Rattle.std.specs.Prelude.{◌≡◌, ◌<◌, ◌^◌, ℕ, length};
+ghost use Rattle.std.specs.Prelude.{◌≡◌, ◌<◌, ◌↔◌, ◌^◌, ℕ, length, IsTrue};
 ghost use Rattle.elf_model.specs.declared.refusals.Refusal.TheVariants.{SectionKind};
 ghost use Rattle.elf_model.specs.Fields.{same_name};
 ghost use Rattle.elf_model.specs.Files.{section_name};
 ghost use Rattle.elf_model.specs.Maps.{map_name};
-ghost use Rattle.elf_read.specs.Faults.{Fault, IsHeader, is_input_limit, is_map};
+ghost use Rattle.elf_read.specs.Faults.{Fault, IsHeader, is_map};
 ghost use Rattle.elf_read.specs.HeaderFaults.{IsTabled};
 ghost use Rattle.elf_read.specs.Keeping.{kind_tests};
 ghost use Rattle.elf_read.specs.Places.{IsLowest, first_of};
 
 use crate::headers::{count, header_at, place};
 use crate::keeping::{is_dropped, name_start};
-use crate::kinds::{is_alloc, is_exec, is_memory_kind, is_refused_kind, is_table, is_writable};
 use crate::places::Place;
-use crate::tables::{NOBITS, REL};
-use elf_model::Limit;
+use elf_model::numbers::{NOBITS, REL};
+use elf_model::{Limit, is_alloc, is_exec, is_memory_kind, is_refused_kind, is_table, is_writable};
 
 /// Whether the limit is that of `harden`.
 fn is_input_limit(limit: &Limit) -> bool
-    ensures { result ≡ is_input_limit limit.now }
+    ensures { IsTrue result ↔ (limit.now ≡ Limit.INPUT) }
 {
-    limit.file == 1_048_576
-        && limit.sections == 256
-        && limit.symbols == 16_384
-        && limit.relocs == 65_536
-        && limit.code == 65_536
+    *limit == Limit::INPUT
 }
 
 /// Whether a section has the name of an address map.

@@ -10,8 +10,7 @@ use crate::Read;
 use crate::building::{relocs, sections, symbols};
 use crate::headers::{count, header_at, word};
 use crate::keeping::{counts, is_dropped};
-use crate::kinds::is_table;
-use elf_model::{Limit, Object};
+use elf_model::{Limit, Object, is_table};
 use std::alloc::{AllocError, Global};
 
 /// Whether a section is left out and counted.

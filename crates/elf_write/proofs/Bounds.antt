@@ -1,5 +1,5 @@
 -- The file of an object within the limits has fewer than 2^32 bytes.
-use Rattle.std.proofs.Common.{◌≡◌, ◌≤◌, ◌<◌, ℕ, ◌+◌, ◌-◌, ◌*◌, ◌/◌, ◌^◌, Bool, true, false, cond, not, List, [], ◌∷◌, ◌++◌, length, get_or, refl, sym, ap, ◌∙◌, arith, map, filter}
+use Rattle.std.proofs.Common.{◌≡◌, ◌≤◌, ◌<◌, ℕ, ◌+◌, ◌-◌, ◌*◌, ◌^◌, Bool, true, false, cond, not, List, [], ◌∷◌, ◌++◌, length, get_or, refl, ap, ◌∙◌, arith, map, filter}
 use Rattle.std.specs.Prelude.{All, IsTrue, ◌==◌, ◌&&◌, nat_le, if◌then◌else◌, codes}
 use Rattle.std.specs.List.{sum_by, flat_map}
 use Rattle.std.proofs.Math.Nat.{div-mul-le_self}
@@ -8,13 +8,12 @@ use Rattle.std.proofs.lemmas.List.Sums.{sum_by-cons, sum_by-append}
 use Rattle.std.proofs.lemmas.List.Elements.{All-nil, All-cons, All-append, All-map, All-head, All-tail}
 use Rattle.elf_model.specs.declared.objects.Section.{Section}
 use Rattle.elf_model.specs.declared.objects.Symbol.{Symbol}
-use Rattle.elf_model.specs.declared.objects.Reloc.{Reloc}
 use Rattle.elf_model.specs.Constants.{nobits}
 use Rattle.elf_model.specs.Fields.{same_name}
 use Rattle.elf_model.specs.Objects.{ObjectParts, is_object, is_within, code_size}
 use Rattle.elf_model.specs.declared.refusals.Limit.{Limit}
 use Rattle.std.proofs.lemmas.Bool.{and_parts, leb-true}
-use Rattle.elf_model.specs.Canonical.{FileSection, canonical, file_sections, section_names, own_section, reloc_section, reloc_name, symtab_section, strings_section, symbol_names, symbol_row, string_table, different, relocated, relocs_in, round_up, start_of, end_of, laid_end, table_place, shstrtab_header}
+use Rattle.elf_model.specs.Canonical.{FileSection, canonical, file_sections, section_names, own_section, reloc_section, reloc_name, symtab_section, strings_section, symbol_names, string_table, different, relocated, relocs_in, round_up, start_of, end_of, laid_end, table_place, shstrtab_header}
 use Rattle.elf_model.specs.Fits.{Fits, SectionFits, SymbolFits, RelocFits}
 use Rattle.elf_model.proofs.FileRead.{length-file_of}
 use Rattle.elf_model.proofs.Laid.{round_up_above}
@@ -77,15 +76,15 @@ laid_within at (s ∷ ss) =
     let rest = laid_within (end_of at s) ss in
     omega (arith, one, rest, sum_by-cons weight s ss)
 
-abbrev bytes_of : Section → ℕ
-bytes_of s = length s.bytes
+abbrev byte_count : Section → ℕ
+byte_count s = length s.bytes
 
-own_within : (ss : List Section) → All (λ (s : Section). s.align ≤ 4096) ss → sum_by weight (map own_section ss) ≤ sum_by bytes_of ss + 4096 * length ss
+own_within : (ss : List Section) → All (λ (s : Section). s.align ≤ 4096) ss → sum_by weight (map own_section ss) ≤ sum_by byte_count ss + 4096 * length ss
 own_within [] a = omega arith
 own_within (s ∷ ss) a =
     let one = All-head (λ (x : Section). x.align ≤ 4096) s ss a in
     let rest = own_within ss (All-tail (λ (x : Section). x.align ≤ 4096) s ss a) in
-    omega (arith, one, rest, sum_by-cons weight (own_section s) (map own_section ss), sum_by-cons bytes_of s ss)
+    omega (arith, one, rest, sum_by-cons weight (own_section s) (map own_section ss), sum_by-cons byte_count s ss)
 
 rels_within : (o : ObjectParts) (ps : List (ℕ × Section)) → sum_by weight (map (reloc_section o) ps) ≡ 8 * length (flat_map (λ (p : ℕ × Section). relocs_in o p.0) ps) + 4 * length ps
 rels_within o [] = refl
@@ -129,7 +128,7 @@ pub record IsSmall (o : ObjectParts) : Type 0 where
   pub sections : length o.sections ≤ 1024
   pub symbols : length o.symbols ≤ 262144
   pub relocs : length o.relocs ≤ 524288
-  pub bytes : sum_by bytes_of o.sections < 2 ^ 30
+  pub bytes : sum_by byte_count o.sections < 2 ^ 30
 
 tables_within : (o : ObjectParts) → ObjectFacts o → IsSmall o → weight (symtab_section o) + (weight (strings_section (codes ".strtab") (symbol_names o)) + weight (strings_section (codes ".shstrtab") (section_names o))) ≤ 1087393832
 tables_within o f s =
@@ -187,7 +186,7 @@ fits o h s flags sections symbols relocs =
     let count = count_sections o in
     record { flags = flags; count = omega (arith, a, few, count); file = fits_file o h s; symbol_count = omega (arith, b); sections = sections; symbols = symbols; relocs = relocs }
 
-pub small : (o : ObjectParts) → IsTrue (is_within o any_limit) → sum_by bytes_of o.sections < 2 ^ 30 → IsSmall o
+pub small : (o : ObjectParts) → IsTrue (is_within o any_limit) → sum_by byte_count o.sections < 2 ^ 30 → IsSmall o
 small o h b =
     let x = and_parts (nat_le (length o.sections) 1024 && nat_le (length o.symbols) 262144 && nat_le (length o.relocs) 524288) (nat_le (code_size o.sections) 16777216) h in
     let y = and_parts (nat_le (length o.sections) 1024 && nat_le (length o.symbols) 262144) (nat_le (length o.relocs) 524288) x.0 in

@@ -1,15 +1,15 @@
 -- One more section behind those that were laid out.
-use Rattle.std.proofs.Common.{◌≡◌, ◌≤◌, ℕ, ◌+◌, List, [], ◌∷◌, ◌++◌, length, get_or, Some, refl, sym, ap, ◌∙◌, subst, arith, map}
-use Rattle.std.specs.Prelude.{slice_get, All}
+use Rattle.std.proofs.Common.{◌≡◌, ◌≤◌, ℕ, ◌+◌, List, [], ◌∷◌, ◌++◌, length, get_or, refl, sym, ap, ◌∙◌, subst}
+use Rattle.std.specs.Prelude.{All}
 use Rattle.std.proofs.lemmas.List.{append_assoc, append-nil, map-append}
 use Rattle.std.proofs.lemmas.List.Elements.{All-nil, All-cons, All-append, All-head, All-tail}
 use Rattle.std.proofs.lemmas.Option.{slice_get-get_or}
-use Rattle.elf_model.specs.Canonical.{FileSection, name_offset, round_up, start_of, end_of, laid, laid_end, header_row, header_rows}
+use Rattle.elf_model.specs.Canonical.{FileSection, name_offset, start_of, end_of, laid, laid_end, header_row, header_rows, added, row_with}
 use Rattle.elf_model.proofs.Laid.{length-laid}
 use Rattle.elf_model.proofs.Lists.{get_map}
 use Rattle.elf_write.specs.declared.layout.Layout.{Layout}
 use Rattle.elf_write.specs.declared.names.Names.{Names}
-use Rattle.elf_write.specs.Writing.{IsTable, IsLaid, IsWritten, added, row_with, names_of}
+use Rattle.elf_write.specs.Writing.{IsTable, IsLaid, IsWritten, names_of}
 use Rattle.elf_write.proofs.StringTables.{offset_more}
 
 laid_push : (at : ℕ) (ss : List FileSection) (s : FileSection) → laid at (ss ++ s ∷ []) ≡ laid at ss ++ added (laid_end at ss) s

@@ -2,7 +2,7 @@ mod StringTables
 mod Laying
 mod Rows
 mod Sound
-mod Bounds
+pub mod Bounds
 mod Whole
 mod Tables
 mod Relocated

@@ -1,13 +1,11 @@
 -- The sections of relocations, one after the other.
-use Rattle.std.proofs.Common.{◌≡◌, ◌≢◌, ◌<◌, get_or, ℕ, zero, suc, ◌+◌, ◌*◌, Bool, true, false, not, cond, List, [], ◌∷◌, ◌++◌, length, refl, sym, ap, ◌∙◌, inl, inr, ◌⊎◌, arith, map, filter}
+use Rattle.std.proofs.Common.{◌≡◌, ◌<◌, get_or, ℕ, zero, suc, ◌+◌, Bool, true, false, not, cond, List, [], ◌∷◌, ◌++◌, length, refl, sym, ap, ◌∙◌, inl, inr, arith, map}
 use Rattle.std.specs.Prelude.{◌==◌, if◌then◌else◌, count_by, codes}
-use Rattle.std.specs.List.{flat_map}
 use Rattle.std.proofs.lemmas.Bool.{cases_eq, eq-eqb, ne_eqb}
 use Rattle.elf_model.specs.declared.objects.Section.{Section}
-use Rattle.elf_model.specs.declared.objects.Reloc.{Reloc}
 use Rattle.elf_model.specs.Objects.{ObjectParts}
 use Rattle.elf_model.specs.Files.{from}
-use Rattle.elf_model.specs.Canonical.{FileSection, reloc_section, relocated, relocs_in, reloc_row, symtab_header}
+use Rattle.elf_model.specs.Canonical.{reloc_section, relocated, relocs_in, symtab_header}
 use Rattle.elf_model.proofs.Lists.{count_cons}
 use Rattle.elf_model.proofs.Written.{length-reloc_rows}
 use Rattle.elf_write.specs.Writing.{file_section, rel_head, rel_sections, reloc_table}

@@ -1,5 +1,5 @@
 -- The rows of symbols and relocations, one after the other.
-use Rattle.std.proofs.Common.{◌≡◌, ◌<◌, subst, ℕ, ◌+◌, Bool, true, false, cond, List, [], ◌∷◌, ◌++◌, length, get_or, take, drop, replicate, refl, sym, ap, ◌∙◌, inl, inr, ◌⊎◌, arith, map, filter}
+use Rattle.std.proofs.Common.{◌≡◌, ◌<◌, subst, ℕ, ◌+◌, Bool, true, false, cond, List, [], ◌∷◌, ◌++◌, length, get_or, take, drop, refl, sym, ap, ◌∙◌, arith, map, filter}
 use Rattle.std.specs.Prelude.{◌==◌, nat_le, All}
 use Rattle.std.specs.List.{flat_map, prefix_len}
 use Rattle.std.proofs.lemmas.List.{append_assoc, append-nil, map-append, take_at, drop_at, take_more, drop-drop, take-append-drop}
@@ -7,15 +7,14 @@ use Rattle.std.proofs.Math.Seq.{take-add}
 use Rattle.std.proofs.lemmas.List.Elements.{All-head, All-tail, All-nil, All-cons, All-append}
 use Rattle.std.proofs.lemmas.Grind.{flat_map-append}
 use Rattle.std.proofs.lemmas.Option.{slice_get-get_or}
-use Rattle.std.proofs.lemmas.Bool.{cases_Bool, cases_eq, ne_eqb}
 use Rattle.std.proofs.lemmas.Bool.Decides.{nat_tests}
 use Rattle.elf_model.specs.declared.objects.Symbol.{Symbol}
 use Rattle.elf_model.specs.declared.objects.Reloc.{Reloc}
 use Rattle.elf_model.specs.Objects.{rise}
-use Rattle.elf_model.specs.Canonical.{name_offset, symbol_row}
+use Rattle.elf_model.specs.Canonical.{name_offset, symbol_row, symbol_row_with}
 use Rattle.elf_model.proofs.Lists.{get_map}
 use Rattle.elf_model.proofs.Sorted.{in_from, in_one, in_from_split, none_from}
-use Rattle.elf_write.specs.Writing.{symbol_row_with, FitBefore}
+use Rattle.elf_write.specs.Writing.{FitBefore}
 use Rattle.elf_model.specs.Fits.{RelocFits}
 use Rattle.elf_write.proofs.StringTables.{offset_more}
 

@@ -1,18 +1,18 @@
 -- The tables at the end of a file.
-use Rattle.std.proofs.Common.{◌≡◌, ℕ, ◌+◌, ◌*◌, List, [], ◌∷◌, ◌++◌, length, replicate, sym, ap, ◌∙◌, subst, arith, map}
+use Rattle.std.proofs.Common.{◌≡◌, ℕ, ◌+◌, ◌*◌, List, [], ◌∷◌, ◌++◌, length, replicate, sym, ap, ◌∙◌, subst, arith}
 use Rattle.std.specs.Prelude.{count_by, ◌==◌, codes}
 use Rattle.std.specs.List.{flat_map}
-use Rattle.std.proofs.lemmas.List.{length-append, append_assoc, map-append}
+use Rattle.std.proofs.lemmas.List.{append_assoc, map-append}
 use Rattle.elf_model.specs.declared.objects.Symbol.{Symbol}
 use Rattle.elf_model.specs.Constants.{local}
 use Rattle.elf_model.specs.Objects.{ObjectParts}
-use Rattle.elf_model.specs.Canonical.{FileSection, file_sections, section_names, strings_section, string_table, name_offset, round_up, symbol_row, symbol_names, symtab_section, symtab_header}
+use Rattle.elf_model.specs.Canonical.{FileSection, file_sections, section_names, strings_section, string_table, name_offset, round_up, symbol_row, symbol_names, symtab_section, symtab_header, added, row_with, text_section}
 use Rattle.elf_model.proofs.Written.{length-symbol_rows}
 use Rattle.elf_model.proofs.Written.{names_of as names_are}
 use Rattle.elf_write.specs.declared.layout.Head.{Head}
 use Rattle.elf_write.specs.declared.layout.Layout.{Layout}
 use Rattle.elf_write.specs.declared.names.Names.{Names}
-use Rattle.elf_write.specs.Writing.{IsTable, IsLaid, IsWritten, added, row_with, names_of, front_sections, text_section, file_section}
+use Rattle.elf_write.specs.Writing.{IsTable, IsLaid, IsWritten, names_of, front_sections, file_section}
 use Rattle.elf_write.proofs.Laying.{one_laid}
 use Rattle.elf_write.proofs.Rows.{names_in}
 

@@ -1,10 +1,7 @@
 -- The file of the sections that were laid out is the canonical one.
-use Rattle.std.proofs.Common.{◌≡◌, ◌≤◌, ◌<◌, ◌^◌, ℕ, ◌+◌, ◌-◌, List, ◌++◌, length, replicate, sym, ap, ◌∙◌, subst, arith}
-use Rattle.std.specs.Prelude.{All, IsTrue, Result, Ok, Err, IfOk}
-use Rattle.std.specs.List.{sum_by}
-use Rattle.elf_model.specs.Objects.{ObjectParts, is_object}
+use Rattle.std.proofs.Common.{◌≡◌, ℕ, ◌+◌, ◌-◌, List, ◌++◌, length, replicate, ap, ◌∙◌, arith}
+use Rattle.elf_model.specs.Objects.{ObjectParts}
 use Rattle.elf_model.specs.Canonical.{canonical, file_header, file_sections, section_names, symtab_header, shstrtab_header, laid, laid_end, header_rows, round_up}
-use Rattle.elf_model.specs.Files.{StandsFor}
 use Rattle.elf_model.proofs.Laid.{length-laid}
 use Rattle.elf_model.proofs.Written.{count_sections}
 use Rattle.elf_write.specs.declared.layout.Layout.{Layout}

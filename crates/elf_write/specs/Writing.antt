@@ -1,12 +1,10 @@
 -- What the parts of a file that is being written hold.
-use Rattle.std.specs.Prelude.{◌≡◌, ◌≤◌, ℕ, ◌+◌, ◌-◌, ◌*◌, ◌==◌, List, [], ◌∷◌, ◌++◌, length, map, take, drop, filter, replicate, if◌then◌else◌, codes, All}
+use Rattle.std.specs.Prelude.{◌≡◌, ◌≤◌, ℕ, ◌+◌, ◌-◌, ◌==◌, List, [], ◌∷◌, ◌++◌, length, map, take, drop, filter, replicate, if◌then◌else◌, codes, All}
 use Rattle.std.specs.List.{flat_map}
-use Rattle.elf_model.specs.declared.objects.Symbol.{Symbol}
 use Rattle.elf_model.specs.declared.objects.Reloc.{Reloc}
-use Rattle.elf_model.specs.Constants.{nobits, rel, strtab}
-use Rattle.elf_model.specs.Fields.{half, word}
+use Rattle.elf_model.specs.Constants.{rel}
 use Rattle.elf_model.specs.Objects.{ObjectParts}
-use Rattle.elf_model.specs.Canonical.{FileSection, different, string_table, start_of, laid, header_rows, home_index, reloc_row, section_header, own_section, reloc_section, relocated, file_header, round_up}
+use Rattle.elf_model.specs.Canonical.{FileSection, different, string_table, laid, header_rows, reloc_row, section_header, own_section, reloc_section, relocated, file_header, round_up}
 use Rattle.elf_model.specs.Fits.{RelocFits}
 use Rattle.elf_write.specs.declared.names.Names.{Names}
 use Rattle.elf_write.specs.declared.layout.Head.{Head}
@@ -40,15 +38,6 @@ file_section name h bytes = record {
   bytes = bytes;
 }
 
--- what a section adds to the contents where the ones before end here
-abbrev pub added : ℕ → FileSection → List ℕ
-added at s = if s.kind == nobits then [] else replicate (start_of at s - at) 0 ++ s.bytes
-
--- a section's header, by the offset of its name and the place of its bytes
-abbrev pub row_with : ℕ → ℕ → FileSection → List ℕ
-row_with name start s =
-    word name ++ word s.kind ++ word s.flags ++ word 0 ++ word start ++ word s.size ++ word s.link ++ word s.info ++ word s.align ++ word s.entry
-
 abbrev pub names_of : List FileSection → List (List ℕ)
 names_of ss = map (λ (s : FileSection). s.name) ss
 
@@ -63,10 +52,6 @@ pub record IsWritten (l : Layout) (t : Names) (ss : List FileSection) : Type 0 w
   pub sections : IsLaid l (names_of ss) ss
   pub names : IsTable t (names_of ss)
 
--- a symbol's row, by the offset of its name
-abbrev pub symbol_row_with : ℕ → Symbol → List ℕ
-symbol_row_with name s = word name ++ word s.value ++ word s.size ++ (s.bind * 16 + s.kind) ∷ s.other ∷ half (home_index s.home)
-
 -- the rows of the relocations of a section
 abbrev pub reloc_table : List Reloc → ℕ → List ℕ
 reloc_table relocs i = flat_map reloc_row (filter (λ (r : Reloc). r.section == i) relocs)
@@ -78,10 +63,6 @@ rel_head table i size = record { kind = rel; flags = 0; size = size; link = tabl
 -- the section of relocations of a section with this name, where there are some
 abbrev pub rel_sections : ℕ → ℕ → List ℕ → List ℕ → List FileSection
 rel_sections table i name rows = if length rows == 0 then [] else file_section (codes ".rel" ++ name) (rel_head table i (length rows)) rows ∷ []
-
--- a string table with these bytes
-abbrev pub text_section : List ℕ → List ℕ → FileSection
-text_section name bytes = record { name = name; kind = strtab; flags = 0; size = length bytes; link = 0; info = 0; align = 1; entry = 0; bytes = bytes }
 
 -- the sections before the tables
 abbrev pub front_sections : ObjectParts → List FileSection

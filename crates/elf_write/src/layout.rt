@@ -1,15 +1,14 @@
 //! The contents of the sections, one behind the other, and the rows of their headers.
 
 ghost use Rattle.std.specs.Prelude.{◌≡◌, ◌+◌, ◌<◌, ◌^◌, ◌++◌, [], ◌∷◌, List, length, OnOk};
-ghost use Rattle.elf_model.specs.Canonical.{FileSection, round_up, start_of};
-ghost use Rattle.elf_write.specs.Writing.{IsWritten, added, file_section, row_with};
+ghost use Rattle.elf_model.specs.Canonical.{FileSection, round_up, start_of, added, row_with};
+ghost use Rattle.elf_write.specs.Writing.{IsWritten, file_section};
 
 use crate::fields::{put_words, put_zeros};
 use crate::names::Names;
+use elf_model::numbers::NOBITS;
+use elf_model::round_up;
 use std::alloc::{AllocError, Global};
-
-/// The type of a section without bytes in the file.
-const NOBITS: usize = 8;
 
 /// The bytes of the file's header.
 const HEADER: usize = 52;
@@ -31,15 +30,6 @@ pub(crate) struct Head {
 pub(crate) struct Layout {
     pub(crate) contents: Vec<u8>,
     pub(crate) rows: Vec<u8>,
-}
-
-/// The next multiple of an alignment.
-pub(crate) fn round_up(at: usize, align: usize) -> usize
-    requires aligned { 0 < align }
-    requires room { at + align < 2 ^ 64 }
-    ensures { result ≡ round_up at align }
-{
-    (at + align - 1) / align * align
 }
 
 fn put_row(rows: &mut Vec<u8>, name: usize, start: usize, head: &Head) -> Result<(), AllocError>
@@ -65,9 +55,9 @@ pub(crate) fn put(
     ensures rows { OnOk result (layout.new.rows.items ≡ layout.old.rows.items ++ row_with name (round_up (52 + length layout.old.contents.items) head.now.align) (file_section [] head.now [])) }
 {
     let at = HEADER + layout.contents.as_slice().len();
-    let start = round_up(at, head.align);
+    let start = round_up(at as u64, head.align as u64) as usize;
     put_row(&mut layout.rows, name, start, head)?;
-    if head.kind == NOBITS {
+    if head.kind == NOBITS as usize {
         return Ok(());
     }
     put_zeros(&mut layout.contents, start - at)?;

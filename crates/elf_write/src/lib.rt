@@ -1,11 +1,12 @@
 //! Writes objects as relocatable files.
 #![tactic(auto)]
 
-ghost use Rattle.std.specs.Prelude.{◌≡◌, ◌↔◌, ◌<◌, ◌^◌, length, IsTrue, IfOk};
+ghost use Rattle.std.specs.Prelude.{◌≡◌, ◌↔◌, ◌<◌, ◌^◌, length, IsTrue, IfOk, OnOk};
 ghost use Rattle.std.specs.List.{sum_by};
 ghost use Rattle.elf_model.specs.Objects.{is_within};
 ghost use Rattle.elf_model.specs.Canonical.{canonical};
 ghost use Rattle.elf_model.specs.Files.{StandsFor};
+ghost use Rattle.elf_model.specs.Fits.{Fits};
 
 mod fields;
 mod layout;
@@ -30,11 +31,13 @@ pub fn has_room(o: &Object) -> bool
     elf_model::within(o, &Limit::ANY) && fits_bytes(o.sections())
 }
 
-/// The file of an object. It takes time in proportion to the file's bytes and the object's names.
+/// The file of an object, whose numbers then fit their fields. It takes time in proportion to the file's
+/// bytes and the object's names.
 pub fn write_object(alloc: Global, o: &Object) -> Result<Vec<u8>, AllocError>
     requires room { IsTrue (is_within o.now Limit.ANY) }
     requires bytes { sum_by (λ s. length s.bytes) o.now.sections < 2 ^ 30 }
     ensures file { IfOk result (λ file. file.items ≡ canonical o.now) }
+    ensures fits { OnOk result (Fits o.now) }
     ensures stands { IfOk result (λ file. StandsFor file.items o.now) }
 {
     o.sound();

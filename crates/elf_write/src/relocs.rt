@@ -2,40 +2,22 @@
 
 ghost use Rattle.std.specs.Prelude.{◌≡◌, ◌==◌, ◌++◌, ℕ, true, not, length, map, filter, count_by, All, ◌<◌, IfOk, OnOk};
 ghost use Rattle.std.specs.List.{flat_map, prefix_len};
-ghost use Rattle.elf_model.specs.Objects.{reloc_code, rise};
+ghost use Rattle.elf_model.specs.Objects.{rise};
 ghost use Rattle.elf_model.specs.Files.{from};
 ghost use Rattle.elf_model.specs.Canonical.{reloc_row};
 ghost use Rattle.elf_model.specs.Fits.{RelocFits};
 ghost use Rattle.elf_write.specs.Writing.{reloc_table};
 
 use crate::fields::put_word;
-use elf_model::{Bytes, Reloc, RelocKind};
+use elf_model::{Bytes, Reloc};
 use std::alloc::{AllocError, Global};
-
-fn reloc_code(kind: RelocKind) -> usize
-    ensures code { result ≡ reloc_code kind }
-    ensures small { result < 256 }
-{
-    match kind {
-        RelocKind::Abs32 => 2,
-        RelocKind::Target1 => 38,
-        RelocKind::ThmCall => 10,
-        RelocKind::ThmJump24 => 30,
-        RelocKind::MovwAbs => 47,
-        RelocKind::MovtAbs => 48,
-        RelocKind::ThmJump19 => 51,
-        RelocKind::ThmJump11 => 102,
-        RelocKind::ThmJump8 => 103,
-        RelocKind::Other(n) => n as usize,
-    }
-}
 
 fn put_reloc(rows: &mut Vec<u8>, r: &Reloc) -> Result<(), AllocError>
     ensures row { OnOk result (rows.new.items ≡ rows.old.items ++ reloc_row r.now) }
     ensures fits { RelocFits r.now }
 {
     put_word(rows, r.offset as usize)?;
-    put_word(rows, (r.symbol as usize + 1) * 256 + reloc_code(r.kind))
+    put_word(rows, (r.symbol as usize + 1) * 256 + r.kind.code() as usize)
 }
 
 fn reloc_rows(alloc: Global, relocs: &[Reloc]) -> Result<Vec<u8>, AllocError>

@@ -3,13 +3,14 @@
 ghost use Rattle.std.specs.Prelude.{◌≡◌, ◌≤◌, ◌<◌, ◌+◌, ◌*◌, ◌^◌, ◌++◌, ℕ, List, [], ◌∷◌, length, map, codes, All, IfOk, OnOk};
 ghost use Rattle.elf_model.specs.Objects.{ObjectParts};
 ghost use Rattle.elf_model.specs.Files.{from};
-ghost use Rattle.elf_model.specs.Canonical.{FileSection, section_names, own_section, reloc_section, symtab_section, relocated, symtab_header, file_sections, round_up};
+ghost use Rattle.elf_model.specs.Canonical.{FileSection, section_names, own_section, reloc_section, symtab_section, relocated, symtab_header, file_sections, round_up, added, row_with, text_section};
 ghost use Rattle.elf_model.specs.Fits.{SectionFits, SymbolFits};
-ghost use Rattle.elf_write.specs.Writing.{IsWritten, IsLaid, IsTable, added, row_with, front_sections, file_section, rel_head, rel_sections, reloc_table, text_section};
+ghost use Rattle.elf_write.specs.Writing.{IsWritten, IsLaid, IsTable, front_sections, file_section, rel_head, rel_sections, reloc_table};
 
 use crate::layout::{Head, Layout, put, put_named};
 use crate::names::Names;
 use crate::symbols::{locals, symbol_rows};
+use elf_model::numbers::{REL, STRTAB, SYMTAB};
 use elf_model::{Bytes, Object, Section, Symbol};
 use std::alloc::{AllocError, Global};
 
@@ -67,7 +68,7 @@ fn reloc_head(symtab: usize, section: usize, size: usize) -> Head
     ensures { result ≡ rel_head symtab section size }
 {
     Head {
-        kind: 9,
+        kind: REL as usize,
         flags: 0,
         size,
         link: symtab,
@@ -140,7 +141,12 @@ fn put_strings(layout: &mut Layout, name: usize, text: &[u8]) -> Result<(), Allo
     ensures contents { OnOk result (layout.new.contents.items ≡ layout.old.contents.items ++ added (52 + length layout.old.contents.items) (text_section [] text.now)) }
     ensures rows { OnOk result (layout.new.rows.items ≡ layout.old.rows.items ++ row_with name (round_up (52 + length layout.old.contents.items) 1) (text_section [] text.now)) }
 {
-    put(layout, name, &table_head(3, text.len(), 1), text)
+    put(
+        layout,
+        name,
+        &table_head(STRTAB as usize, text.len(), 1),
+        text,
+    )
 }
 
 /// Puts the symbol table, whose header comes before those of the two string tables.
@@ -163,7 +169,7 @@ fn put_symbols(
         link: symtab + 1,
         info: 1 + locals(symbols),
         entry: 16,
-        ..table_head(2, rows.as_slice().len(), 4)
+        ..table_head(SYMTAB as usize, rows.as_slice().len(), 4)
     };
     put_named(alloc, layout, names, b".symtab", &head, &rows)?;
     Ok(held)

@@ -3,12 +3,13 @@
 ghost use Rattle.std.specs.Prelude.{◌≡◌, ◌+◌, ◌*◌, ◌<◌, ◌++◌, [], length, map, replicate, count_by, ◌==◌, All, IfOk, OnOk};
 ghost use Rattle.std.specs.List.{flat_map};
 ghost use Rattle.elf_model.specs.Constants.{local};
-ghost use Rattle.elf_model.specs.Canonical.{home_index, symbol_row};
+ghost use Rattle.elf_model.specs.Canonical.{home_index, symbol_row, symbol_row_with};
 ghost use Rattle.elf_model.specs.Fits.{SymbolFits};
-ghost use Rattle.elf_write.specs.Writing.{IsTable, symbol_row_with};
+ghost use Rattle.elf_write.specs.Writing.{IsTable};
 
 use crate::fields::{put_half, put_words, put_zeros};
 use crate::names::Names;
+use elf_model::numbers::{ABSOLUTE_INDEX, LOCAL, UNDEFINED_INDEX};
 use elf_model::{Home, Symbol};
 use std::alloc::{AllocError, Global};
 
@@ -16,8 +17,8 @@ fn home_index(home: Home) -> usize
     ensures { result ≡ home_index home }
 {
     match home {
-        Home::Undefined => 0,
-        Home::Absolute => 0xFFF1,
+        Home::Undefined => UNDEFINED_INDEX as usize,
+        Home::Absolute => ABSOLUTE_INDEX as usize,
         Home::Section(i) => i as usize + 1,
     }
 }
@@ -60,7 +61,7 @@ pub(crate) fn locals(symbols: &[Symbol]) -> usize
 {
     let mut n = 0;
     for s in symbols {
-        if s.bind == 0 {
+        if s.bind == LOCAL {
             n += 1;
         }
     }

@@ -10,11 +10,11 @@ ghost use Rattle.elf_model.specs.Canonical.{file_header, file_sections, section_
 ghost use Rattle.elf_write.specs.Writing.{IsLaid, IsTable, IsWritten, reloc_table, whole_file};
 
 use crate::fields::{put_halves, put_words, put_zeros};
-use crate::layout::{Layout, round_up};
+use crate::layout::Layout;
 use crate::names::Names;
 use crate::relocs::filled;
 use crate::sections::{put_own, put_relocs, put_tables};
-use elf_model::{Bytes, Object};
+use elf_model::{Bytes, Object, round_up};
 use std::alloc::{AllocError, Global};
 
 /// The first bytes of every file.
@@ -83,7 +83,7 @@ pub(crate) fn whole_file(
     ensures { IfOk result (λ file. file.items ≡ whole_file layout.now.contents.items layout.now.rows.items symtab flags) }
 {
     let end = 52 + layout.contents.as_slice().len();
-    let table = round_up(end, 4);
+    let table = round_up(end as u64, 4) as usize;
     let mut file = Vec::new(alloc);
     put_header(&mut file, table, symtab + 3, symtab + 2, flags)?;
     file.extend_from_slice(&layout.contents)?;

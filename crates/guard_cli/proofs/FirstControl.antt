@@ -13,7 +13,8 @@ use Rattle.thumb_table.specs.Effects.{change}
 use Rattle.thumb_table.specs.Ordinary.{IsPlain, IsLow}
 use Rattle.thumb_table.specs.Steps.{move, fetch, IsOrdinary}
 use Rattle.thumb_table.specs.Schedules.{run, IsLegal, Returns, OrdinaryRun, is_in, exit}
-use Rattle.thumb_table.specs.Images.{IsPlacement, IsImage, start}
+use Rattle.thumb_table.specs.Layouts.{IsPlacement}
+use Rattle.thumb_table.specs.Images.{IsImage, start}
 use Rattle.thumb_table.specs.Parts.{Image}
 use Rattle.thumb_table.specs.declared.placements.Placement.{Placement}
 use Rattle.guard_cli.specs.AddressMaps.{SameWord}

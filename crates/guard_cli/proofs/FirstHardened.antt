@@ -1,6 +1,5 @@
 -- Doubling hardens an object of the first form, with at most two instructions for one.
 use Rattle.std.proofs.Common.{◌≡◌, ℕ, ◌+◌, ◌*◌, ◌≤◌, Bool, false, List, [], ◌∷◌, length, Some, None, All, refl, sym, ap, ◌∙◌, subst, inl, Ok, le_trans, arith}
-use Rattle.std.proofs.lemmas.List.Elements.{All-nil}
 use Rattle.elf_model.specs.declared.objects.MapRow.{MapRow}
 use Rattle.guard_cli.specs.FirstForm.{IsFirstCode, code_bytes, first_object}
 use Rattle.guard_cli.specs.Output.{doubled, hardened_object}
@@ -12,7 +11,7 @@ use Rattle.thumb_table.specs.Images.{IsImage, entry_of, start}
 use Rattle.thumb_table.specs.Parts.{Image}
 use Rattle.thumb_table.specs.declared.placements.Placement.{Placement}
 use Rattle.guard_cli.specs.AddressMaps.{TakesEntry, SameState}
-use Rattle.guard_cli.specs.Hardened.{EndsAlike, Rise, Hardened}
+use Rattle.guard_cli.specs.Hardened.{EndsAlike, Hardened}
 use Rattle.guard_cli.proofs.Groups.{legal_of}
 use Rattle.guard_cli.proofs.Standing.{length-code_bytes}
 use Rattle.guard_cli.proofs.FirstRuns.{IsReady, after_moves, after_moves_plain, plain_end, hard_run}
@@ -95,7 +94,7 @@ pub first_hardened : (halves : List ℕ) → IsFirstCode halves → Hardened (fi
 first_hardened halves is = record {
   maps = maps_of halves;
   count = refl;
-  are_maps = first_maps halves;
+  are_maps = first_maps halves is;
   low = omega arith;
   high = omega arith;
   short = first_short halves;
@@ -113,7 +112,7 @@ pub none_hardened : (F : ℕ) → 1 ≤ F → F ≤ 16 → Hardened [] [] F
 none_hardened F low high = record {
   maps = [];
   count = refl;
-  are_maps = record { count = refl; has = (λ i o rows e f. cc); rise = All-nil Rise };
+  are_maps = record { count = refl; has = (λ i o rows e f. cc) };
   low = low;
   high = high;
   short = (λ i k o h t e f g. cc);

@@ -1,19 +1,19 @@
 -- The map of an object of the first form: its rows rise, and its first one takes the function's address to itself.
-use Rattle.std.proofs.Common.{◌≡◌, ℕ, zero, suc, ◌+◌, ◌*◌, ◌<◌, ◌≤◌, List, [], ◌∷◌, length, Some, All, Contains, slice_get, refl, sym, subst, inl, inr, lit<, arith}
+use Rattle.std.proofs.Common.{◌≡◌, ℕ, zero, suc, ◌+◌, ◌*◌, ◌^◌, ◌<◌, ◌≤◌, List, [], ◌∷◌, length, Some, All, Contains, slice_get, refl, sym, subst, inl, inr, lit<, arith}
 use Rattle.std.proofs.lemmas.List.Elements.{All-cons, All-nil}
 use Rattle.std.proofs.lemmas.Option.{same_Some}
 use Rattle.elf_model.specs.declared.objects.Section.{Section}
 use Rattle.elf_model.specs.declared.objects.MapRow.{MapRow}
 use Rattle.elf_model.specs.declared.objects.RowKind.TheVariants as row
 use Rattle.elf_model.specs.Objects.{ObjectParts}
-use Rattle.elf_model.specs.Maps.{HasMap}
+use Rattle.elf_model.specs.Maps.{IsBefore, Rise, RowFits, HasMap, map_section}
 use Rattle.guard_cli.specs.FirstForm.{IsFirstCode, code_bytes, text_section, first_object}
 use Rattle.guard_cli.specs.Output.{doubled, rows_from, rows_of, hardened_object}
 use Rattle.thumb_table.specs.Images.{even}
 use Rattle.thumb_table.specs.Parts.{Image}
 use Rattle.thumb_table.specs.declared.placements.Placement.{Placement}
 use Rattle.guard_cli.specs.AddressMaps.{TakesEntry}
-use Rattle.guard_cli.specs.Hardened.{IsBefore, Rise, AreMaps, AreShort, code_sections}
+use Rattle.guard_cli.specs.Hardened.{AreMaps, AreShort, code_sections}
 use Rattle.guard_cli.proofs.Standing.{length-code_bytes}
 use Rattle.guard_cli.proofs.FirstImages.{IsFormed, text_part, even_of_entry, length_doubled_bytes}
 use Rattle.guard_cli.proofs.FirstLinks.{is_not_empty}
@@ -36,18 +36,35 @@ rows_rise i (suc n) = (all_behind i (i + 1) n (omega arith), rows_rise (i + 1) n
 abbrev pub maps_of : List ℕ → List (List MapRow)
 maps_of halves = rows_of halves ∷ []
 
-has_map : (halves : List ℕ) (i : ℕ) (o : ObjectParts) (rows : List MapRow) → slice_get (hardened_object halves ∷ []) i ≡ Some o → slice_get (maps_of halves) i ≡ Some rows → HasMap o rows
-has_map halves zero o rows e f =
+row_fits : (i : ℕ) → 4 * i < 2 ^ 32 → RowFits (row_at i)
+row_fits i h = record { section = omega arith; old = omega arith; new = omega arith }
+
+rows_fit : (i n : ℕ) → 4 * (i + n) ≤ 2 ^ 32 → All RowFits (rows_from i n)
+rows_fit i zero h = All-nil RowFits
+rows_fit i (suc n) h = All-cons RowFits (row_at i) (rows_from (i + 1) n) (row_fits i (omega arith)) (rows_fit (i + 1) n (omega arith))
+
+the_map : (halves : List ℕ) → IsFirstCode halves → HasMap (hardened_object halves) (rows_of halves)
+the_map halves is = record {
+  section = map_section (rows_of halves);
+  only = refl;
+  kind = refl;
+  flags = refl;
+  entry = refl;
+  are_rows = record { bytes = refl; fit = rows_fit 0 (length halves) (omega (arith, is.short)) };
+  rise = rows_rise 0 (length halves);
+}
+
+has_map : (halves : List ℕ) → IsFirstCode halves → (i : ℕ) (o : ObjectParts) (rows : List MapRow) → slice_get (hardened_object halves ∷ []) i ≡ Some o → slice_get (maps_of halves) i ≡ Some rows → HasMap o rows
+has_map halves is zero o rows e f =
     let same : hardened_object halves ≡ o = same_Some _ _ e in
     let same_rows : rows_of halves ≡ rows = same_Some _ _ f in
-    subst (λ (v : ObjectParts). HasMap v rows) same (subst (λ rs. HasMap (hardened_object halves) rs) same_rows (1, lit< tt, refl))
-has_map halves (suc i) o rows e f = cc
+    subst (λ (v : ObjectParts). HasMap v rows) same (subst (λ rs. HasMap (hardened_object halves) rs) same_rows (the_map halves is))
+has_map halves is (suc i) o rows e f = cc
 
-pub first_maps : (halves : List ℕ) → AreMaps (hardened_object halves ∷ []) (maps_of halves)
-first_maps halves = record {
+pub first_maps : (halves : List ℕ) → IsFirstCode halves → AreMaps (hardened_object halves ∷ []) (maps_of halves)
+first_maps halves is = record {
   count = refl;
-  has = has_map halves;
-  rise = All-cons Rise (rows_of halves) [] (rows_rise 0 (length halves)) (All-nil Rise);
+  has = has_map halves is;
 }
 
 -- the section of a number below the bound of its growth

@@ -8,7 +8,7 @@ use Rattle.elf_model.proofs.OneObject.{only_one_object}
 use Rattle.thumb_table.specs.declared.placements.Placement.{Placement}
 use Rattle.thumb_table.specs.Parts.{Image}
 use Rattle.thumb_table.specs.Images.{image_bytes}
-use Rattle.flat_link.specs.Refusals.{IsLinkRefusal}
+use Rattle.thumb_table.specs.LinkFaults.{IsLinkRefusal}
 use Rattle.guard_cli.specs.declared.endings.Ending.{Ending}
 use Rattle.guard_cli.specs.declared.endings.Ending.TheVariants.{Done, Refused, Usage, ReadFault, WriteFault, PrintFault, NoMemory, Stopped}
 use Rattle.guard_cli.specs.Words.{Pair}
@@ -19,7 +19,6 @@ use Rattle.guard_cli.specs.LinkRuns.{IsOf, IsLinkInputRefusal, IsLinkOf, LinkEnd
 use Rattle.guard_cli.specs.LinkSteps.{IsLinkMade}
 use Rattle.guard_cli.proofs.Carried.{loaded_whole, refused_whole, told_before, saved_before, untouched_before, refused_before, unsaved_before}
 use Rattle.guard_cli.proofs.Answered.{some_same, handled_is_accepted}
-use Rattle.guard_cli.proofs.SameImages.{no_link_fault}
 
 -- An input that was loaded, and that is of an object, is that file.
 pub loaded_is_of : (files : Files) (input : List ℕ) (most : ℕ) (bytes : List ℕ) (o : ObjectParts) → (IsTrue files.told → IsLoaded (files.content input) most bytes) → ANY.file < most → IsOf bytes o
@@ -113,7 +112,7 @@ image_is_accepted at file spot (o, image, is, linked) (inl read) = handled_is_ac
 image_is_accepted at file spot (o, image, is, linked) (inr (other, its, refusal)) =
     let same = one_of file other o its is in
     let here : IsLinkRefusal (o ∷ []) at spot = subst (λ (x : ObjectParts). IsLinkRefusal (x ∷ []) at spot) same refusal in
-    no_link_fault (o ∷ []) at spot.refusal spot.file spot.section linked.can here.fault
+    linked.can.sound spot here.fault
 
 pub calm_is_linked : (at : Placement) (p : Pair) (old new : Files) (screen after : Screen) (ending : Ending) (file : List ℕ) → LinkEndsAs at p old new screen after ending → IsTrue old.told
     → old.content p.input ≡ Some file → HasImage at file → IsCalm old new screen after → IsDoneOrNoMemory ending

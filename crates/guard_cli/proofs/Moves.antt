@@ -8,9 +8,8 @@ use Rattle.std.proofs.Math.Seq.{take-append_seam, drop-append_seam}
 use Rattle.std.proofs.lemmas.List.Elements.{All-cons}
 use Rattle.std.proofs.lemmas.Slice.Eq.{bytes_eq-Decides}
 use Rattle.elf_model.specs.Fields.{half}
-use Rattle.elf_model.specs.Objects.{ObjectParts}
 use Rattle.guard_cli.specs.FirstForm.{IsMove, code_bytes, return_half}
-use Rattle.guard_cli.specs.FirstCode.{IsFirstBytes, IsFirstWith, are_moves, is_first_code}
+use Rattle.guard_cli.specs.FirstCode.{IsFirstBytes, are_moves, is_first_code}
 
 -- numbers that are bytes
 abbrev pub AreBytes : List ℕ → Type 0
@@ -139,6 +138,3 @@ moves_odd xs i h = at_drop_more are_moves xs i 0 (omega arith) ∙ at_drop_all (
 
 pub first_short : (code : List ℕ) → IsFirstBytes code → length code ≤ 65536
 first_short code f = let long : length code ≡ 2 * length f.halves = ap length f.bytes ∙ length-code f.halves in omega (arith, f.sound.short)
-
-pub with_short : (o : ObjectParts) (code : List ℕ) → IsFirstWith o code → length code ≤ 65536
-with_short o code f = first_short code (record { halves = f.halves; sound = f.sound; bytes = f.bytes })

@@ -19,6 +19,7 @@ use Rattle.guard_cli.specs.LinkRuns.{IsOf}
 use Rattle.guard_cli.specs.MachineRuns.{Call, IsRunRefusal, Comes, Stops, HasRun, RunEndsAs, CanReturn}
 use Rattle.guard_cli.proofs.Answered.{some_same}
 use Rattle.guard_cli.proofs.LinkCarried.{one_of, image_is_accepted}
+use Rattle.thumb_table.proofs.PlainImages.{one_plain}
 use Rattle.guard_cli.proofs.SameImages.{same_image}
 
 -- A fault ends every longer run.
@@ -82,7 +83,7 @@ call_is_accepted c file spot (o, image, is, linked, entry, entry_is, n, t, withi
 call_is_accepted c file spot (o, image, is, linked, entry, entry_is, n, t, within, comes) (inr (at, (other, its_image, its, its_linked, none))) =
     let same = one_of file other o its is in
     let here : IsImage (o ∷ []) c.at its_image = subst (λ (x : ObjectParts). IsImage (x ∷ []) c.at its_image) same its_linked in
-    let one : its_image ≡ image = same_image (o ∷ []) c.at its_image image here linked in
+    let one : its_image ≡ image = same_image (o ∷ []) c.at (one_plain o is.form.relocs) its_image image here linked in
     no_some entry (sym none ∙ ap (λ (i : Image). entry_of i.entries c.entry) one ∙ entry_is)
   where
     no_some : (a : ℕ) → None ≡ Some a → ⊥
@@ -96,7 +97,7 @@ run_returns c old new file outcome line told there (o, image, is, linked, entry,
     let same_file : found.0 ≡ file = some_same (sym found.1 ∙ there) in
     let same : r.call.object ≡ o = one_of file r.call.object o (subst (λ f. IsOf f r.call.object) same_file found.2) is in
     let here : IsImage (o ∷ []) c.at r.image = subst (λ (x : ObjectParts). IsImage (x ∷ []) c.at r.image) same r.call.linked.image_is in
-    let one : r.image ≡ image = same_image (o ∷ []) c.at r.image image here linked in
+    let one : r.image ≡ image = same_image (o ∷ []) c.at (one_plain o is.form.relocs) r.image image here linked in
     let place : r.call.entry ≡ entry = some_same (sym r.call.entry_is ∙ ap (λ (i : Image). entry_of i.entries c.entry) one ∙ entry_is) in
     let begun : r.begun ≡ start image c.at.stack entry c.arguments =
     r.call.start_is ∙ ap (λ (i : Image). start i c.at.stack r.call.entry c.arguments) one ∙ ap (λ (a : ℕ). start image c.at.stack a c.arguments) place in

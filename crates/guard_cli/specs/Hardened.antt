@@ -3,27 +3,19 @@ use Rattle.std.specs.Prelude.{◌≡◌, ◌<◌, ◌≤◌, ◌⊎◌, ℕ, ◌
 use Rattle.elf_model.specs.declared.objects.Section.{Section}
 use Rattle.elf_model.specs.declared.objects.MapRow.{MapRow}
 use Rattle.elf_model.specs.Objects.{ObjectParts, is_code}
-use Rattle.elf_model.specs.Maps.{HasMap, row_kind}
+use Rattle.elf_model.specs.Maps.{HasMap}
 use Rattle.thumb_table.specs.States.{State}
 use Rattle.thumb_table.specs.Schedules.{IsLegal, Returns, OrdinaryRun, is_in}
-use Rattle.thumb_table.specs.Images.{IsImage, code_bytes_of, entry_of, start}
+use Rattle.thumb_table.specs.Layouts.{code_bytes_of}
+use Rattle.thumb_table.specs.Images.{IsImage, entry_of, start}
 use Rattle.thumb_table.specs.Parts.{Image}
 use Rattle.thumb_table.specs.declared.placements.Placement.{Placement}
 use Rattle.guard_cli.specs.AddressMaps.{TakesEntry, SameState}
-
--- the rows rise strictly by section, old offset and kind
-pub record IsBefore (a b : MapRow) : Type 0 where
-  pub before : (a.section < b.section) ⊎ ((a.section ≡ b.section) × ((a.old < b.old) ⊎ ((a.old ≡ b.old) × (row_kind a.kind < row_kind b.kind))))
-
-abbrev pub Rise : List MapRow → Type 0
-Rise [] = Unit {0}
-Rise (r ∷ rest) = All (IsBefore r) rest × Rise rest
 
 -- each output has its map
 pub record AreMaps (outs : List ObjectParts) (maps : List (List MapRow)) : Type 0 where
   pub count : length maps ≡ length outs
   pub has : (i : ℕ) (o : ObjectParts) (rows : List MapRow) → slice_get outs i ≡ Some o → slice_get maps i ≡ Some rows → HasMap o rows
-  pub rise : All Rise maps
 
 abbrev pub code_sections : ObjectParts → List Section
 code_sections o = filter is_code o.sections

@@ -12,7 +12,6 @@ pub mod LinkSteps
 pub mod Loads
 pub mod Commands
 pub mod Statuses
-pub mod HardenedFile
 pub mod Outcomes
 pub mod AddressMaps
 pub mod Hardened

@@ -1,16 +1,18 @@
 //! What is made of an input before anything is saved.
 
-ghost use Rattle.std.specs.Prelude.{◌≡◌, ◌*◌, ◌≤◌, ℕ, List, [], length, IfOk, IfErr, string_bytes};
+ghost use Rattle.std.specs.Prelude.{◌≡◌, ◌*◌, ◌≤◌, ℕ, List, [], IfOk, IfErr, string_bytes};
 ghost use Rattle.guard_cli.specs.FirstForm.{code_bytes, at_start};
+ghost use Rattle.guard_cli.specs.FirstCode.{IsFirstBytes};
 ghost use Rattle.guard_cli.specs.Inputs.{IsTurnedDown};
 ghost use Rattle.guard_cli.specs.Runs.{IsHardenRefusal, output_of, report_of};
 ghost use Rattle.guard_cli.specs.Outcomes.{IsDecided};
 
 use crate::first::first_code;
-use crate::form::hardened_file;
+use crate::form::hardened_object;
 use crate::texts::{Counts, report_text};
 use elf_model::{Deny, Limit, Refusal, Spot};
 use elf_read::read_object;
+use elf_write::write_object;
 use std::alloc::{AllocError, Global};
 
 /// An output's file, and the report on it.
@@ -37,12 +39,13 @@ pub(crate) fn decide(alloc: Global, output: &str, bytes: &[u8]) -> Result<Decide
 
 /// The hardened file of code of the first form, and the report on it.
 fn make(alloc: Global, output: &str, code: &[u8], dropped: u32) -> Result<Decided, AllocError>
-    requires { length code.now ≤ 65536 }
+    requires { IsFirstBytes code.now }
     ensures file { IfOk result (λ made. (halves : List ℕ) → code.now ≡ code_bytes halves → made.file.items ≡ output_of halves) }
     ensures report { IfOk result (λ made. (halves : List ℕ) → code.now ≡ code_bytes halves →
         string_bytes made.report ≡ report_of (record { input = []; output = output.now }) halves dropped) }
 {
-    let file = hardened_file(alloc, code)?;
+    let object = hardened_object(alloc, code)?;
+    let file = write_object(alloc, &object)?;
     let report = report_text(alloc, output, &counts_of((code.len() / 2) as u32, dropped))?;
     Ok(Decided { file, report })
 }

@@ -1,121 +1,157 @@
-//! The hardened file of an object of the first form.
+//! The hardened object of code of the first form.
 
-ghost use Rattle.std.specs.Prelude.{◌≡◌, ◌≤◌, ◌*◌, ◌++◌, ℕ, List, length, IfOk, OnOk};
-ghost use Rattle.std.specs.List.{flat_map};
-ghost use Rattle.elf_model.specs.Fields.{half, word};
-ghost use Rattle.elf_model.specs.Maps.{row_bytes};
-ghost use Rattle.guard_cli.specs.FirstForm.{code_bytes};
-ghost use Rattle.guard_cli.specs.Output.{rows_from};
-ghost use Rattle.guard_cli.specs.Runs.{output_of};
-ghost use Rattle.guard_cli.specs.HardenedFile.{symbols_at, head, tables, header_words, doubled_bytes};
+ghost use Rattle.std.specs.Prelude.{◌≡◌, ◌≤◌, ◌<◌, ◌^◌, ◌++◌, ℕ, List, [], ◌∷◌, length, IfOk, OnOk};
+ghost use Rattle.elf_model.specs.Maps.{map_section, row_bytes, row_kind};
+ghost use Rattle.guard_cli.specs.FirstForm.{code_bytes, text_section, code_symbol, function_symbol};
+ghost use Rattle.guard_cli.specs.FirstCode.{IsFirstBytes};
+ghost use Rattle.guard_cli.specs.Output.{doubled, rows_from, hardened_object};
 
+use elf_model::{Bytes, Home, MapRow, Name, Object, RowKind, Section, Symbol};
 use std::alloc::{AllocError, Global};
 
-/// The file of the object of the first form with this code, whose instructions stand twice.
-pub(crate) fn hardened_file(alloc: Global, code: &[u8]) -> Result<Vec<u8>, AllocError>
-    requires { length code.now ≤ 65536 }
-    ensures { IfOk result (λ file. (halves : List ℕ) → code.now ≡ code_bytes halves → file.items ≡ output_of halves) }
+/// The object in which each instruction of this code stands twice, with the map of their places.
+pub(crate) fn hardened_object(alloc: Global, code: &[u8]) -> Result<Object, AllocError>
+    requires { IsFirstBytes code.now }
+    ensures { IfOk result (λ o. (halves : List ℕ) → code.now ≡ code_bytes halves → o ≡ hardened_object halves) }
 {
-    let instructions = (code.len() / 2) as u32;
-    let mut file = Vec::new(alloc);
-    push_head(&mut file, instructions)?;
-    push_doubled(&mut file, code)?;
-    push_rows(&mut file, instructions)?;
-    push_tables(&mut file, instructions)?;
-    push_headers(&mut file, instructions)?;
-    Ok(file)
+    let sections = sections_of(alloc, code)?;
+    let symbols = symbols_of(alloc, 2 * code.len() as u32)?;
+    match elf_model::object(sections, symbols, Vec::new(alloc), 0x0500_0000) {
+        Some(object) => Ok(object),
+        None => unreachable!(),
+    }
 }
 
-/// Where the symbols stand.
-fn symbols_at(instructions: u32) -> u32
-    requires { instructions ≤ 32768 }
-    ensures { result ≡ symbols_at instructions }
+/// Its sections: the code, and the map.
+fn sections_of(alloc: Global, code: &[u8]) -> Result<Vec<Section>, AllocError>
+    requires { IsFirstBytes code.now }
+    ensures { IfOk result (λ sections. (halves : List ℕ) → code.now ≡ code_bytes halves → sections.items ≡ (hardened_object halves).sections) }
 {
-    52 + 4 * instructions + 16 * instructions
+    let text = text_section(alloc, doubled(alloc, code)?)?;
+    let rows = rows_of(alloc, code.len() / 2)?;
+    let map = map_section(alloc, &rows)?;
+    Ok(vec![in alloc; text, map]?)
 }
 
-/// The file header.
-fn push_head(file: &mut Vec<u8>, instructions: u32) -> Result<(), AllocError>
-    requires { instructions ≤ 32768 }
-    ensures { OnOk result (file.new.items ≡ file.old.items ++ head instructions) }
+/// Its symbols, where its code has this size.
+fn symbols_of(alloc: Global, size: u32) -> Result<Vec<Symbol>, AllocError>
+    ensures { IfOk result (λ symbols. symbols.items ≡ code_symbol ∷ function_symbol size ∷ []) }
 {
-    let table = symbols_at(instructions) + 104;
-    file.extend_from_slice(b"\x7fELF\x01\x01\x01\0\0\0\0\0\0\0\0\0")?;
-    push_halves(file, &[1, 40])?;
-    push_words(file, &[1, 0, 0, table, 0x0500_0000])?;
-    push_halves(file, &[52, 0, 0, 40, 6, 5])
+    Ok(vec![in alloc; code_symbol(alloc)?, function_symbol(alloc, size)?]?)
 }
 
-/// The code with each instruction twice.
-fn push_doubled(file: &mut Vec<u8>, code: &[u8]) -> Result<(), AllocError>
-    ensures { OnOk result (file.new.items ≡ file.old.items ++ doubled_bytes code.now) }
+/// Code with each instruction twice in its place.
+fn doubled(alloc: Global, code: &[u8]) -> Result<Vec<u8>, AllocError>
+    ensures { IfOk result (λ twice. (halves : List ℕ) → code.now ≡ code_bytes halves → twice.items ≡ code_bytes (doubled halves)) }
 {
+    let mut twice = Vec::new(alloc);
     let mut rest = code;
     while let [low, high, tail @ ..] = rest {
-        file.extend_from_slice(&[*low, *high, *low, *high])?;
+        twice.extend_from_slice(&[*low, *high, *low, *high])?;
         rest = tail;
     }
-    Ok(())
+    Ok(twice)
 }
 
-/// The rows of the map: each instruction stands at twice its old offset.
-fn push_rows(file: &mut Vec<u8>, instructions: u32) -> Result<(), AllocError>
+/// The rows of the map of so many instructions: each stands at twice its old offset.
+fn rows_of(alloc: Global, instructions: usize) -> Result<Vec<MapRow>, AllocError>
     requires { instructions ≤ 32768 }
-    ensures { OnOk result (file.new.items ≡ file.old.items ++ flat_map row_bytes (rows_from 0 instructions)) }
+    ensures { IfOk result (λ rows. rows.items ≡ rows_from 0 instructions) }
 {
-    for i in 0..instructions {
-        push_words(file, &[0, 2 * i, 4 * i, 0])?;
+    let mut rows = Vec::new(alloc);
+    for i in 0..instructions as u32 {
+        rows.push(MapRow {
+            section: 0,
+            old: 2 * i,
+            new: 4 * i,
+            kind: RowKind::Start,
+        })?;
     }
-    Ok(())
+    Ok(rows)
 }
 
-/// The symbols, the names and the bytes up to the section headers.
-fn push_tables(file: &mut Vec<u8>, instructions: u32) -> Result<(), AllocError>
-    requires { instructions ≤ 32768 }
-    ensures { OnOk result (file.new.items ≡ file.old.items ++ tables instructions) }
+/// The section with these rows of a map.
+fn map_section(alloc: Global, rows: &[MapRow]) -> Result<Section, AllocError>
+    requires { length rows.now < 2 ^ 28 }
+    ensures { IfOk result (λ s. s ≡ map_section rows.now) }
 {
-    // name, value, size, and then binding, type and section
-    push_words(file, &[0, 0, 0, 0])?;
-    push_words(file, &[1, 0, 0, 0x1_0000])?;
-    push_words(file, &[4, 1, 4 * instructions, 0x1_0012])?;
-    file.extend_from_slice(b"\0$t\0f\0")?;
-    file.extend_from_slice(b"\0.text\0.skipguard.map\0.symtab\0.strtab\0.shstrtab\0\0\0")
-}
-
-/// The section headers.
-fn push_headers(file: &mut Vec<u8>, instructions: u32) -> Result<(), AllocError>
-    requires { instructions ≤ 32768 }
-    ensures { OnOk result (file.new.items ≡ file.old.items ++ flat_map word (header_words instructions)) }
-{
-    let symbols = symbols_at(instructions);
-    let code = 4 * instructions;
-    let rows = 16 * instructions;
-
-    // name, type, flags, address, offset, size, link, info, alignment, size of an entry
-    push_words(file, &[0, 0, 0, 0, 0, 0, 0, 0, 0, 0])?;
-    push_words(file, &[1, 1, 6, 0, 52, code, 0, 0, 4, 0])?;
-    push_words(file, &[7, 1, 0, 0, 52 + code, rows, 0, 0, 4, 16])?;
-    push_words(file, &[22, 2, 0, 0, symbols, 48, 4, 2, 4, 16])?;
-    push_words(file, &[30, 3, 0, 0, symbols + 48, 6, 0, 0, 1, 0])?;
-    push_words(file, &[38, 3, 0, 0, symbols + 54, 48, 0, 0, 1, 0])
-}
-
-/// Appends words, the lowest byte first.
-fn push_words(file: &mut Vec<u8>, words: &[u32]) -> Result<(), AllocError>
-    ensures { OnOk result (file.new.items ≡ file.old.items ++ flat_map word words.now) }
-{
-    for one in words {
-        file.extend_from_slice(&one.to_le_bytes())?;
+    let mut bytes = Vec::new(alloc);
+    for row in rows {
+        push_row(&mut bytes, *row)?;
     }
-    Ok(())
+    Ok(Section {
+        name: Name::new(Vec::from_slice(alloc, b".skipguard.map")?),
+        kind: 1,
+        flags: 0,
+        align: 4,
+        entry: 16,
+        size: 16 * rows.len() as u32,
+        bytes: Bytes::new(bytes),
+    })
 }
 
-/// Appends halfwords, the lowest byte first.
-fn push_halves(file: &mut Vec<u8>, halves: &[u16]) -> Result<(), AllocError>
-    ensures { OnOk result (file.new.items ≡ file.old.items ++ flat_map half halves.now) }
+/// Appends a row's four words, the lowest byte of each first.
+fn push_row(bytes: &mut Vec<u8>, row: MapRow) -> Result<(), AllocError>
+    ensures { OnOk result (bytes.new.items ≡ bytes.old.items ++ row_bytes row) }
 {
-    for one in halves {
-        file.extend_from_slice(&one.to_le_bytes())?;
+    bytes.extend_from_slice(&row.section.to_le_bytes())?;
+    bytes.extend_from_slice(&row.old.to_le_bytes())?;
+    bytes.extend_from_slice(&row.new.to_le_bytes())?;
+    bytes.extend_from_slice(&row_kind(row.kind).to_le_bytes())
+}
+
+/// The number of a kind of row.
+fn row_kind(kind: RowKind) -> u32
+    ensures { result ≡ row_kind kind }
+{
+    match kind {
+        RowKind::Start => 0,
+        RowKind::Return => 1,
     }
-    Ok(())
+}
+
+/// The section of code with these bytes.
+fn text_section(alloc: Global, bytes: Vec<u8>) -> Result<Section, AllocError>
+    requires { length bytes.items < 2 ^ 32 }
+    ensures { IfOk result (λ s. s ≡ text_section bytes.items) }
+{
+    Ok(Section {
+        name: Name::new(Vec::from_slice(alloc, b".text")?),
+        kind: 1,
+        flags: 6,
+        align: 4,
+        entry: 0,
+        size: bytes.len() as u32,
+        bytes: Bytes::new(bytes),
+    })
+}
+
+/// The symbol that says that the section begins with Thumb code.
+fn code_symbol(alloc: Global) -> Result<Symbol, AllocError>
+    ensures { IfOk result (λ s. s ≡ code_symbol) }
+{
+    Ok(Symbol {
+        name: Name::new(Vec::from_slice(alloc, b"$t")?),
+        value: 0,
+        size: 0,
+        bind: 0,
+        kind: 0,
+        other: 0,
+        home: Home::Section(0),
+    })
+}
+
+/// The function, of this size.
+fn function_symbol(alloc: Global, size: u32) -> Result<Symbol, AllocError>
+    ensures { IfOk result (λ s. s ≡ function_symbol size) }
+{
+    Ok(Symbol {
+        name: Name::new(Vec::from_slice(alloc, b"f")?),
+        value: 1,
+        size,
+        bind: 1,
+        kind: 2,
+        other: 0,
+        home: Home::Section(0),
+    })
 }

@@ -16,7 +16,6 @@ mod listings;
 mod loading;
 mod numbers;
 mod options;
-mod plans;
 mod running;
 mod settings;
 mod texts;

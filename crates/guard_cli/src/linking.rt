@@ -4,7 +4,8 @@ ghost use Rattle.std.specs.Prelude.{◌≡◌, ◌≢◌, ◌≤◌, ◌∷◌, 
 ghost use Rattle.guard_io.specs.Outside.{IsLoaded};
 ghost use Rattle.elf_model.specs.declared.refusals.TheConstants.Limit.{ANY};
 ghost use Rattle.elf_model.specs.Objects.{is_alloc, is_code};
-ghost use Rattle.thumb_table.specs.Images.{IsPlacement, is_data};
+ghost use Rattle.thumb_table.specs.Layouts.{IsPlacement};
+ghost use Rattle.thumb_table.specs.Images.{is_data};
 ghost use Rattle.guard_cli.specs.Inputs.{IsTurnedDown};
 ghost use Rattle.guard_cli.specs.Runs.{files_seen, screen_seen, CountsGrow, CountsStay};
 ghost use Rattle.guard_cli.specs.LinkRuns.{bytes_of, IsLinkInputRefusal, LinkEndsAs};

@@ -7,3 +7,6 @@ pub mod Schedules
 pub mod PlanTexts
 pub mod Calls
 pub mod Moving
+pub mod DecimalTexts
+pub mod Paces
+pub mod PlanSteps

@@ -23,10 +23,3 @@ then_both P xs ys a b e first second = (λ t. All-append P xs ys (first.0 e) (se
 pub else_none : (P : ℕ → Type 0) (xs ys : List ℕ) (a : Bool) → a ≡ false → (IsTrue a → All P xs) × (All P xs → IsTrue a)
     → (IsTrue a → All P (xs ++ ys)) × (All P (xs ++ ys) → IsTrue a)
 else_none P xs ys a e first = (λ t. let no : a ≡ true = t in absurd (cc), λ h. first.1 (front P xs ys h))
-
-pub access_used : (P : ℕ → Type 0) (n n' : ℕ) (place place' : Place) (op op' : AccessOp) (t t' : ℕ) (b : Bool) → n ≡ n' → place ≡ place' → op ≡ op' → t ≡ t'
-    → (IsTrue b → All P (n ∷ in_place place ++ in_part op t)) × (All P (n ∷ in_place place ++ in_part op t) → IsTrue b)
-    → (IsTrue b → All P (n' ∷ in_place place' ++ in_part op' t')) × (All P (n' ∷ in_place place' ++ in_part op' t') → IsTrue b)
-access_used P n n' place place' op op' t t' b en ep eo et h =
-    let F : ℕ → Place → AccessOp → ℕ → Type 0 = λ k q o r. (IsTrue b → All P (k ∷ in_place q ++ in_part o r)) × (All P (k ∷ in_place q ++ in_part o r) → IsTrue b) in
-    subst (λ k. F k place' op' t') en (subst (λ q. F n q op' t') ep (subst (λ o. F n place o t') eo (subst (λ r. F n place op r) et h)))

@@ -2,8 +2,8 @@ use Rattle.std.proofs.Common.{Some, None, sym, subst, arith}
 use Rattle.elf_model.specs.declared.refusals.Refusal.TheVariants.{NotElf, NotArmRel, BadTable, BadName, BadSymbol}
 use Rattle.elf_model.specs.declared.refusals.Limit.{Limit}
 use Rattle.elf_model.specs.declared.refusals.Spot.{Spot}
-use Rattle.elf_read.specs.Faults.{Fault, IsFaultlessBelow}
-use Rattle.elf_read.specs.FirstFaults.{IsFirstBelow}
+use Rattle.elf_read.specs.Faults.{Fault}
+use Rattle.elf_read.specs.FirstFaults.{IsFirstBelow, IsFaultlessBelow}
 use Rattle.elf_read.specs.Places.{IsLowest}
 use Rattle.elf_read.proofs.FirstFaults.{only_elf, only_arm, only_table, only_name, only_symbol, none_below, none_more, first_fault, long_enough, tabled_by}
 use Rattle.elf_read.proofs.malformed.first_malformed.Goals as goal

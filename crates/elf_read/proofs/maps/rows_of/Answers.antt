@@ -1,5 +1,6 @@
 use Rattle.std.proofs.Common.{◌≤◌, ◌<◌, ◌*◌, length, refl, sym, subst, arith}
-use Rattle.elf_read.specs.MapRows.{IsDenied, HasNoRows, IsRowAt}
+use Rattle.elf_read.specs.MapRefusals.{IsDenied}
+use Rattle.elf_read.specs.MapRows.{HasNoRows, IsRowAt}
 use Rattle.elf_read.proofs.RowBytes.{none_read, one_more, all_read, no_rows}
 use Rattle.elf_read.proofs.maps.rows_of.Goals as goal
 

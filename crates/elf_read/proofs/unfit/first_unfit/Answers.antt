@@ -1,8 +1,8 @@
 use Rattle.std.proofs.Common.{Some, None, sym, subst, arith}
 use Rattle.elf_model.specs.declared.refusals.Refusal.TheVariants.{BadReloc, TooMany, SectionKind}
 use Rattle.elf_model.specs.declared.refusals.Spot.{Spot}
-use Rattle.elf_read.specs.Faults.{Fault, IsFaultlessBelow}
-use Rattle.elf_read.specs.FirstFaults.{IsFirstBelow}
+use Rattle.elf_read.specs.Faults.{Fault}
+use Rattle.elf_read.specs.FirstFaults.{IsFirstBelow, IsFaultlessBelow}
 use Rattle.elf_read.specs.Places.{IsLowest}
 use Rattle.elf_read.proofs.FirstFaults.{none_more, first_fault}
 use Rattle.elf_read.proofs.AllFaults.{only_reloc, only_many, only_kind}

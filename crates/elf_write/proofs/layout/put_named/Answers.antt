@@ -1,6 +1,6 @@
-use Rattle.std.proofs.Common.{◌≡◌, OnOk, ◌++◌, ◌∷◌, [], List, ◌+◌, ◌∙◌, length, Ok, Err}
-use Rattle.elf_model.specs.Canonical.{FileSection, start_of}
-use Rattle.elf_write.specs.Writing.{IsWritten, file_section, added, row_with, names_of}
+use Rattle.std.proofs.Common.{◌≡◌, OnOk, ◌++◌, ◌∷◌, [], ◌+◌, length, Ok, Err}
+use Rattle.elf_model.specs.Canonical.{FileSection, start_of, added, row_with}
+use Rattle.elf_write.specs.Writing.{IsWritten, file_section, names_of}
 use Rattle.elf_write.proofs.Laying.{one_written}
 use Rattle.elf_write.proofs.layout.put_named.Goals as goal
 

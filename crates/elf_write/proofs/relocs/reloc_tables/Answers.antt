@@ -6,7 +6,7 @@ use Rattle.elf_model.specs.declared.objects.Reloc.{Reloc}
 use Rattle.elf_model.specs.Files.{from}
 use Rattle.elf_model.specs.Canonical.{reloc_row}
 use Rattle.elf_model.proofs.Lists.{from-append}
-use Rattle.elf_model.proofs.Sorted.{in_one, in_from, all_from_first}
+use Rattle.elf_model.proofs.Sorted.{in_from, all_from_first}
 use Rattle.elf_write.specs.Writing.{reloc_table}
 use Rattle.elf_write.proofs.Rows.{run_is, none_read, run_read, all_read}
 use Rattle.elf_write.proofs.relocs.reloc_tables.Goals as goal

@@ -1,12 +1,10 @@
-use Rattle.std.proofs.Common.{◌≡◌, ◌++◌, ◌∷◌, [], ◌∙◌, ◌+◌, ◌<◌, ap, sym, List, ℕ, take, map, subst, length, get_or, arith, not, ◌==◌}
-use Rattle.std.specs.Prelude.{count_by}
+use Rattle.std.proofs.Common.{◌≡◌, ◌++◌, ◌∷◌, [], ◌∙◌, ◌+◌, ◌<◌, ap, sym, List, ℕ, take, map, subst, length, get_or, arith}
 use Rattle.std.proofs.lemmas.List.{append_assoc, map-append, take_more, length-take}
 use Rattle.elf_model.specs.declared.objects.Section.{Section}
 use Rattle.elf_model.specs.Objects.{ObjectParts}
-use Rattle.elf_model.specs.Files.{from}
-use Rattle.elf_model.specs.Canonical.{FileSection, own_section, reloc_section, relocated, symtab_header}
-use Rattle.elf_write.specs.Writing.{IsWritten, rel_head, rel_sections, reloc_table}
-use Rattle.elf_write.proofs.Relocated.{relocated_push, numbered, one_table, filled_are, length_tables, table_made}
+use Rattle.elf_model.specs.Canonical.{FileSection, own_section, reloc_section, relocated}
+use Rattle.elf_write.specs.Writing.{IsWritten, rel_sections, reloc_table}
+use Rattle.elf_write.proofs.Relocated.{relocated_push, numbered, one_table, length_tables, table_made}
 use Rattle.elf_write.proofs.sections.put_relocs.Goals as goal
 
 pub bounds-tables-i : goal.bounds-tables-i

@@ -1,9 +1,6 @@
-use Rattle.std.proofs.Common.{◌≡◌, ◌++◌, ◌∷◌, [], ◌∙◌, ◌+◌, ap, sym, List, ℕ, subst, length}
-use Rattle.std.specs.Prelude.{codes, count_by, ◌==◌}
-use Rattle.elf_model.specs.Constants.{local}
-use Rattle.elf_model.specs.declared.objects.Symbol.{Symbol}
-use Rattle.elf_model.specs.Objects.{ObjectParts}
-use Rattle.elf_model.specs.Canonical.{FileSection, symtab_section}
+use Rattle.std.proofs.Common.{◌≡◌, ◌++◌, ◌∷◌, [], ◌∙◌, ◌+◌, ap, sym, ℕ, subst, length}
+use Rattle.std.specs.Prelude.{codes}
+use Rattle.elf_model.specs.Canonical.{FileSection}
 use Rattle.elf_write.specs.declared.layout.Head.{Head}
 use Rattle.elf_write.specs.Writing.{IsWritten, file_section}
 use Rattle.elf_write.proofs.Tables.{symtab_head, symtab_made}

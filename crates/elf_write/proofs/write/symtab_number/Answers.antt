@@ -1,6 +1,5 @@
-use Rattle.std.proofs.Common.{◌≡◌, ◌≤◌, ◌∙◌, ◌==◌, ap, arith, length, not}
+use Rattle.std.proofs.Common.{◌∙◌, ◌==◌, ap, arith, length, not}
 use Rattle.std.specs.Prelude.{count_by}
-use Rattle.elf_model.specs.Canonical.{relocated}
 use Rattle.elf_write.proofs.Relocated.{filled_are}
 use Rattle.elf_write.proofs.Sound.{relocated_few}
 use Rattle.elf_write.proofs.write.symtab_number.Goals as goal

@@ -1,6 +1,33 @@
-use Rattle.std.proofs.Common.{◌/◌, ◌∙◌, length, refl}
-use Rattle.guard_cli.proofs.Written.{reported}
+use Rattle.std.proofs.Common.{◌<◌, ◌^◌, ◌/◌, ◌∙◌, length, refl, sym, ap, subst, arith}
+use Rattle.std.specs.Prelude.{IsTrue}
+use Rattle.std.specs.List.{sum_by}
+use Rattle.elf_model.specs.declared.objects.Section.{Section}
+use Rattle.elf_model.specs.declared.refusals.TheConstants.Limit.{ANY}
+use Rattle.elf_model.specs.Objects.{ObjectParts, is_within}
+use Rattle.elf_model.specs.Canonical.{canonical}
+use Rattle.guard_cli.proofs.Moves.{first_short}
+use Rattle.guard_cli.proofs.FirstOutput.{hard_within, hard_bytes}
+use Rattle.guard_cli.proofs.Reported.{reported}
 use Rattle.guard_cli.proofs.decisions.make.Goals as goal
+
+pub write_object-requires-clause-room : goal.write_object-requires-clause-room
+write_object-requires-clause-room c =
+    let first = c.requires in
+    subst (λ (o : ObjectParts). IsTrue (is_within o ANY)) (sym (c.in_ok-object.ensures first.halves first.bytes)) (hard_within first.halves first.sound)
+
+pub write_object-requires-clause-bytes : goal.write_object-requires-clause-bytes
+write_object-requires-clause-bytes c =
+    let first = c.requires in
+    subst (λ (o : ObjectParts). sum_by (λ (s : Section). length s.bytes) o.sections < 2 ^ 30) (sym (c.in_ok-object.ensures first.halves first.bytes)) (hard_bytes first.halves first.sound)
+
+pub overflow_cast-code : goal.overflow_cast-code
+overflow_cast-code c = omega (arith, first_short c.args.code.now c.requires)
+
+pub counts_of-requires : goal.counts_of-requires
+counts_of-requires c = omega (arith, first_short c.args.code.now c.requires)
+
+pub returns-clause-file : goal.returns-clause-file
+returns-clause-file c = λ halves e. c.in_ok-file.ensures.file ∙ ap canonical (c.in_ok-object.ensures halves e)
 
 pub returns-clause-report : goal.returns-clause-report
 returns-clause-report c = λ halves e.

@@ -11,13 +11,14 @@ use Rattle.thumb_table.proofs.arithmetic.apply_alu.Goals as goal
 pub returns : goal.returns
 unfolding change
 returns c =
-    let i = c.args.i.now in
+    let given = c.args.i.now in
+    let i = c.i.inside in
     let s = c.args.s.now in
-    let outcome : Outcome = upright (with_flags c.s.result c.alu_result-r.result (writing ((c.d.result, c.plain.result) ∷ []))) in
-    let same : (site : Site) (m : Memory) → change (instr.Alu i) site (core_of s m) ≡ outcome = λ site m.
+    let outcome : Outcome = upright (with_flags i.s c.alu_result-r.result (writing ((i.d, c.plain.result) ∷ []))) in
+    let same : (site : Site) (m : Memory) → change (instr.Alu given) site (core_of s m) ≡ outcome = λ site m.
     let made : computed i.op (value (core_of s m) i.n) (operand i.x (core_of s m)) s.c ≡ c.alu_result-r.result = cc (operand_alone i.x s m) in
-    rw (made, c.s.ensures, c.d.ensures, c.plain.ensures, c.value.ensures) refl in
+    rw (← c.i.view_is, made, c.plain.ensures, c.value.ensures) refl in
     record {
-      done = makes_of (instr.Alu i) outcome c.args.next s c.write_flagged.new.s c.write_flagged.result same c.write_flagged.ensures.done;
-      fault = stops_of (instr.Alu i) outcome c.args.next s c.write_flagged.new.s c.write_flagged.result same c.write_flagged.ensures.fault;
+      done = makes_of (instr.Alu given) outcome c.args.next s c.write_flagged.new.s c.write_flagged.result same c.write_flagged.ensures.done;
+      fault = stops_of (instr.Alu given) outcome c.args.next s c.write_flagged.new.s c.write_flagged.result same c.write_flagged.ensures.fault;
     }

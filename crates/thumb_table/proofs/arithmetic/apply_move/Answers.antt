@@ -10,14 +10,15 @@ use Rattle.thumb_table.proofs.arithmetic.apply_move.Goals as goal
 pub returns : goal.returns
 unfolding change
 returns c =
-    let i = c.args.i.now in
+    let given = c.args.i.now in
+    let i = c.i.inside in
     let s = c.args.s.now in
-    let outcome : Outcome = upright (with_flags c.s.result c.logical-r.result (writing ((c.d.result, c.moved_word-word.result) ∷ []))) in
-    let same : (site : Site) (m : Memory) → change (instr.Move i) site (core_of s m) ≡ outcome = λ site m.
+    let outcome : Outcome = upright (with_flags i.s c.logical-r.result (writing ((i.d, c.moved_word-word.result) ∷ []))) in
+    let same : (site : Site) (m : Memory) → change (instr.Move given) site (core_of s m) ≡ outcome = λ site m.
     let word : moved_word i.op i.x (core_of s m) ≡ c.moved_word-word.result = cc (moved_alone i.op i.x s m) in
     let carry : (operand i.x (core_of s m)).carry ≡ c.operand_value-x.result.carry = cc (operand_alone i.x s m) in
-    rw (word, carry, c.s.ensures, c.d.ensures, c.logical-r.ensures, c.bits.ensures) refl in
+    rw (← c.i.view_is, word, carry, c.logical-r.ensures, c.bits.ensures) refl in
     record {
-      done = makes_of (instr.Move i) outcome c.args.next s c.write_flagged.new.s c.write_flagged.result same c.write_flagged.ensures.done;
-      fault = stops_of (instr.Move i) outcome c.args.next s c.write_flagged.new.s c.write_flagged.result same c.write_flagged.ensures.fault;
+      done = makes_of (instr.Move given) outcome c.args.next s c.write_flagged.new.s c.write_flagged.result same c.write_flagged.ensures.done;
+      fault = stops_of (instr.Move given) outcome c.args.next s c.write_flagged.new.s c.write_flagged.result same c.write_flagged.ensures.fault;
     }

@@ -11,13 +11,14 @@ use Rattle.thumb_table.proofs.arithmetic.apply_shift_by.Goals as goal
 pub returns : goal.returns
 unfolding change
 returns c =
-    let i = c.args.i.now in
+    let given = c.args.i.now in
+    let i = c.i.inside in
     let s = c.args.s.now in
-    let outcome : Outcome = upright (with_flags c.s.result c.logical-r.result (writing ((c.d.result, c.plain.result) ∷ []))) in
-    let same : (site : Site) (m : Memory) → change (instr.ShiftBy i) site (core_of s m) ≡ outcome = λ site m.
+    let outcome : Outcome = upright (with_flags i.s c.logical-r.result (writing ((i.d, c.plain.result) ∷ []))) in
+    let same : (site : Site) (m : Memory) → change (instr.ShiftBy given) site (core_of s m) ≡ outcome = λ site m.
     let made : shift_c (value (core_of s m) i.n) i.kind (value (core_of s m) i.m % 256) s.c ≡ c.shift_c-shifted.result = cc in
-    rw (made, c.s.ensures, c.d.ensures, c.plain.ensures, c.logical-r.ensures) refl in
+    rw (← c.i.view_is, made, c.plain.ensures, c.logical-r.ensures) refl in
     record {
-      done = makes_of (instr.ShiftBy i) outcome c.args.next s c.write_flagged.new.s c.write_flagged.result same c.write_flagged.ensures.done;
-      fault = stops_of (instr.ShiftBy i) outcome c.args.next s c.write_flagged.new.s c.write_flagged.result same c.write_flagged.ensures.fault;
+      done = makes_of (instr.ShiftBy given) outcome c.args.next s c.write_flagged.new.s c.write_flagged.result same c.write_flagged.ensures.done;
+      fault = stops_of (instr.ShiftBy given) outcome c.args.next s c.write_flagged.new.s c.write_flagged.result same c.write_flagged.ensures.fault;
     }

@@ -12,10 +12,10 @@ unfolding change
 returns c =
     let i = c.args.i.now in
     let s = c.args.s.now in
-    let outcome : Outcome = upright (writing ((c.d.result, c.plain.result) ∷ [])) in
+    let outcome : Outcome = upright (writing ((c.i.inside.d, c.plain.result) ∷ [])) in
     let same : (site : Site) (m : Memory) → change (instr.Field i) site (core_of s m) ≡ outcome = λ site m.
     let made : field_value i.op i.d i.n i.lsb i.width (core_of s m) ≡ c.field_value-value.result = cc (field_alone i.op i.d i.n i.lsb i.width s m) in
-    rw (made, c.d.ensures, c.plain.ensures) refl in
+    rw (made, ← c.i.view_is, c.plain.ensures) refl in
     record {
       done = makes_of (instr.Field i) outcome c.args.next s c.write_word.new.s c.write_word.result same c.write_word.ensures.done;
       fault = stops_of (instr.Field i) outcome c.args.next s c.write_word.new.s c.write_word.result same c.write_word.ensures.fault;

@@ -11,13 +11,14 @@ use Rattle.thumb_table.proofs.bit_fields.apply_unary.Goals as goal
 pub returns : goal.returns
 unfolding change
 returns c =
-    let i = c.args.i.now in
+    let given = c.args.i.now in
+    let i = c.i.inside in
     let s = c.args.s.now in
-    let outcome : Outcome = upright (writing ((c.d.result, c.plain.result) ∷ [])) in
-    let same : (site : Site) (m : Memory) → change (instr.Unary i) site (core_of s m) ≡ outcome = λ site m.
+    let outcome : Outcome = upright (writing ((i.d, c.plain.result) ∷ [])) in
+    let same : (site : Site) (m : Memory) → change (instr.Unary given) site (core_of s m) ≡ outcome = λ site m.
     let made : unary i.op (rotated (value (core_of s m) i.m) i.turn) ≡ c.unary-value.result = cc in
-    rw (made, c.d.ensures, c.plain.ensures) refl in
+    rw (← c.i.view_is, made, c.plain.ensures) refl in
     record {
-      done = makes_of (instr.Unary i) outcome c.args.next s c.write_word.new.s c.write_word.result same c.write_word.ensures.done;
-      fault = stops_of (instr.Unary i) outcome c.args.next s c.write_word.new.s c.write_word.result same c.write_word.ensures.fault;
+      done = makes_of (instr.Unary given) outcome c.args.next s c.write_word.new.s c.write_word.result same c.write_word.ensures.done;
+      fault = stops_of (instr.Unary given) outcome c.args.next s c.write_word.new.s c.write_word.result same c.write_word.ensures.fault;
     }

@@ -11,13 +11,14 @@ use Rattle.thumb_table.proofs.products.apply_div.Goals as goal
 pub returns : goal.returns
 unfolding change
 returns c =
-    let i = c.args.i.now in
+    let given = c.args.i.now in
+    let i = c.i.inside in
     let s = c.args.s.now in
-    let outcome : Outcome = upright (writing ((c.d.result, c.plain.result) ∷ [])) in
-    let same : (site : Site) (m : Memory) → change (instr.Div i) site (core_of s m) ≡ outcome = λ site m.
+    let outcome : Outcome = upright (writing ((i.d, c.plain.result) ∷ [])) in
+    let same : (site : Site) (m : Memory) → change (instr.Div given) site (core_of s m) ≡ outcome = λ site m.
     let made : (if i.signed then signed_quotient (value (core_of s m) i.n) (value (core_of s m) i.m) else quotient (value (core_of s m) i.n) (value (core_of s m) i.m)) ≡ c.divided-value.result = cc in
-    rw (made, c.d.ensures, c.plain.ensures) refl in
+    rw (← c.i.view_is, made, c.plain.ensures) refl in
     record {
-      done = makes_of (instr.Div i) outcome c.args.next s c.write_word.new.s c.write_word.result same c.write_word.ensures.done;
-      fault = stops_of (instr.Div i) outcome c.args.next s c.write_word.new.s c.write_word.result same c.write_word.ensures.fault;
+      done = makes_of (instr.Div given) outcome c.args.next s c.write_word.new.s c.write_word.result same c.write_word.ensures.done;
+      fault = stops_of (instr.Div given) outcome c.args.next s c.write_word.new.s c.write_word.result same c.write_word.ensures.fault;
     }

@@ -11,13 +11,14 @@ use Rattle.thumb_table.proofs.products.apply_long_mul.Goals as goal
 pub returns : goal.returns
 unfolding change
 returns c =
-    let i = c.args.i.now in
+    let given = c.args.i.now in
+    let i = c.i.inside in
     let s = c.args.s.now in
-    let outcome : Outcome = upright (two_words c.lo-2.result c.hi-2.result c.long_product-product.result) in
-    let same : (site : Site) (m : Memory) → change (instr.LongMul i) site (core_of s m) ≡ outcome = λ site m.
+    let outcome : Outcome = upright (two_words i.lo i.hi c.long_product-product.result) in
+    let same : (site : Site) (m : Memory) → change (instr.LongMul given) site (core_of s m) ≡ outcome = λ site m.
     let made : long_product i.op (value (core_of s m) i.n) (value (core_of s m) i.m) (value (core_of s m) i.hi * 2 ^ 32 + value (core_of s m) i.lo) ≡ c.long_product-product.result = cc in
-    rw (made, c.lo-2.ensures, c.hi-2.ensures) refl in
+    rw (← c.i.view_is, made) refl in
     record {
-      done = makes_of (instr.LongMul i) outcome c.args.next s c.write_two.new.s c.write_two.result same c.write_two.ensures.done;
-      fault = stops_of (instr.LongMul i) outcome c.args.next s c.write_two.new.s c.write_two.result same c.write_two.ensures.fault;
+      done = makes_of (instr.LongMul given) outcome c.args.next s c.write_two.new.s c.write_two.result same c.write_two.ensures.done;
+      fault = stops_of (instr.LongMul given) outcome c.args.next s c.write_two.new.s c.write_two.result same c.write_two.ensures.fault;
     }

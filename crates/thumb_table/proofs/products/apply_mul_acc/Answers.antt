@@ -11,13 +11,14 @@ use Rattle.thumb_table.proofs.products.apply_mul_acc.Goals as goal
 pub returns : goal.returns
 unfolding change
 returns c =
-    let i = c.args.i.now in
+    let given = c.args.i.now in
+    let i = c.i.inside in
     let s = c.args.s.now in
-    let outcome : Outcome = upright (writing ((c.d.result, c.plain.result) ∷ [])) in
-    let same : (site : Site) (m : Memory) → change (instr.MulAcc i) site (core_of s m) ≡ outcome = λ site m.
+    let outcome : Outcome = upright (writing ((i.d, c.plain.result) ∷ [])) in
+    let same : (site : Site) (m : Memory) → change (instr.MulAcc given) site (core_of s m) ≡ outcome = λ site m.
     let made : moved (not i.minus) (value (core_of s m) i.a) (wrapped (value (core_of s m) i.n * value (core_of s m) i.m)) ≡ c.moved-sum.result = cc in
-    rw (made, c.d.ensures, c.plain.ensures) refl in
+    rw (← c.i.view_is, made, c.plain.ensures) refl in
     record {
-      done = makes_of (instr.MulAcc i) outcome c.args.next s c.write_word.new.s c.write_word.result same c.write_word.ensures.done;
-      fault = stops_of (instr.MulAcc i) outcome c.args.next s c.write_word.new.s c.write_word.result same c.write_word.ensures.fault;
+      done = makes_of (instr.MulAcc given) outcome c.args.next s c.write_word.new.s c.write_word.result same c.write_word.ensures.done;
+      fault = stops_of (instr.MulAcc given) outcome c.args.next s c.write_word.new.s c.write_word.result same c.write_word.ensures.fault;
     }
