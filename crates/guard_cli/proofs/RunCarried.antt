@@ -3,14 +3,16 @@ use Rattle.std.proofs.Common.{◌≡◌, ◌<◌, inl, inr, ℕ, List, Some, IsT
 use Rattle.guard_io.specs.Outside.{IsLoaded}
 use Rattle.elf_model.specs.declared.refusals.Spot.{Spot}
 use Rattle.elf_model.specs.declared.refusals.TheConstants.Limit.{ANY}
-use Rattle.thumb_table.specs.Images.{start}
+use Rattle.thumb_table.specs.Schedules.{is_in}
+use Rattle.thumb_table.specs.Calls.{start}
 use Rattle.skip_machine.specs.declared.machines.Outcome.{Outcome}
 use Rattle.skip_machine.specs.declared.machines.Outcome.TheVariants.{Returned}
+use Rattle.skip_machine.specs.Runs.{RunEnds}
 use Rattle.guard_cli.specs.declared.endings.Ending.{Ending}
 use Rattle.guard_cli.specs.declared.endings.Ending.TheVariants.{Done, Refused, Usage, ReadFault, WriteFault, PrintFault, NoMemory, Stopped}
 use Rattle.guard_cli.specs.Runs.{Files, Screen, Untouched}
 use Rattle.guard_cli.specs.Outcomes.{LoadEndsAs}
-use Rattle.guard_cli.specs.MachineRuns.{Call, IsRunRefusal, HasRun, Stops, RunEndsAs, run_line}
+use Rattle.guard_cli.specs.MachineRuns.{Call, IsRunRefusal, HasRun, RunEndsAs, run_line}
 use Rattle.guard_cli.specs.LinkSteps.{IsRunMade, RunSaysAs}
 use Rattle.guard_cli.proofs.LinkCarried.{loaded_is_of, link_refused_whole}
 
@@ -39,7 +41,7 @@ has_run c most bytes old new outcome line i made =
           entry_is = made.entry_is;
           start_is = refl;
         };
-        stops = subst (λ o. Stops made.image.code c.schedule c.steps begun o f.steps made.run_is.ended) made.outcome_is made.run_is.stops;
+        ends = subst (λ o. RunEnds made.image.code (is_in c.schedule) c.steps 0 begun o f.steps made.run_is.ended) made.outcome_is made.run_is.ends;
         ordinary_is = made.run_is.ordinary_is;
       };
       line_is = made.line_is ∙ ap (λ o. run_line o f.steps f.r0 f.ordinary) made.outcome_is ∙ ap (λ n. run_line outcome f.steps n f.ordinary) r0;

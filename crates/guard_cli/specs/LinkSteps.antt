@@ -5,11 +5,12 @@ use Rattle.elf_model.specs.Objects.{ObjectParts}
 use Rattle.thumb_table.specs.declared.placements.Placement.{Placement}
 use Rattle.thumb_table.specs.Parts.{Image}
 use Rattle.thumb_table.specs.States.{State, read}
-use Rattle.thumb_table.specs.Schedules.{is_in}
-use Rattle.thumb_table.specs.Images.{IsImage, entry_of, image_bytes, start}
+use Rattle.thumb_table.specs.Schedules.{is_in, OrdinaryRun}
+use Rattle.thumb_table.specs.Images.{IsImage, entry_of, image_bytes}
+use Rattle.thumb_table.specs.Calls.{start}
 use Rattle.skip_machine.specs.declared.machines.Outcome.{Outcome}
 use Rattle.skip_machine.specs.declared.machines.Outcome.TheVariants.{Returned}
-use Rattle.skip_machine.specs.Machines.{OrdinarySteps}
+use Rattle.skip_machine.specs.Runs.{RunEnds}
 use Rattle.guard_cli.specs.declared.endings.Ending.{Ending}
 use Rattle.guard_cli.specs.declared.endings.Ending.TheVariants.{Done, Refused, PrintFault, NoMemory, Stopped}
 use Rattle.guard_cli.specs.declared.words.RunCommand.{RunCommand}
@@ -17,7 +18,7 @@ use Rattle.guard_cli.specs.declared.running.Finished.{Finished}
 use Rattle.guard_cli.specs.LinkRuns.{IsOf, link_report}
 use Rattle.guard_cli.specs.Texts.{refused_line, no_memory_line}
 use Rattle.guard_cli.specs.Runs.{Screen, IsPut, IsCutOff, IsToldOf}
-use Rattle.guard_cli.specs.MachineRuns.{Call, Stops, IsRunRefusal, run_line}
+use Rattle.guard_cli.specs.MachineRuns.{Call, IsRunRefusal, run_line}
 
 -- what is made of an input that is linked: the image's file, and the report
 pub record IsLinkMade (at : Placement) (bytes file report : List ℕ) : Type 0 where
@@ -31,9 +32,9 @@ pub record IsLinkMade (at : Placement) (bytes file report : List ℕ) : Type 0 w
 -- how a run on an image ended
 pub record IsFinished (image : Image) (schedule : List ℕ) (most : ℕ) (begun : State) (f : Finished) : Type 0 where
   pub ended : State
-  pub stops : Stops image.code schedule most begun f.outcome f.steps ended
+  pub ends : RunEnds image.code (is_in schedule) most 0 begun f.outcome f.steps ended
   pub r0_is : f.r0 ≡ (read ended.core 0).bits
-  pub ordinary_is : (f.ordinary ≡ true) ↔ OrdinarySteps image.code (is_in schedule) f.steps 0 begun
+  pub ordinary_is : (f.ordinary ≡ true) ↔ OrdinaryRun image.code (is_in schedule) f.steps 0 begun
 
 -- what is made of an input whose function is run: how that ended, and the line that says so
 pub record IsRunMade (c : Call) (bytes : List ℕ) (outcome : Outcome) (line : List ℕ) : Type 0 where

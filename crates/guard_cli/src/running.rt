@@ -2,7 +2,7 @@
 
 ghost use Rattle.std.specs.Prelude.{◌≡◌, ◌≤◌, ℕ, List, length, IfOk, IfErr, IsTrue, IsSome, string_bytes};
 ghost use Rattle.thumb_table.specs.Layouts.{IsPlacement};
-ghost use Rattle.thumb_table.specs.Images.{start};
+ghost use Rattle.thumb_table.specs.Calls.{start};
 ghost use Rattle.skip_machine.specs.Machines.{CanRun};
 ghost use Rattle.guard_cli.specs.Inputs.{IsTurnedDown};
 ghost use Rattle.guard_cli.specs.Runs.{files_seen, screen_seen, CountsGrow, CountsStay};

@@ -39,11 +39,7 @@ fn entry_spot(f: &Flow, sets: &Live, p: u32) -> Option<Spot>
     let x = f.points()[p as usize];
     match first_member(sets.before(p), &UNSET_AT_ENTRY) {
         None => None,
-        Some(register) => Some(spot_of(
-            Refusal::LiveAtEntry { register },
-            x.section,
-            x.offset,
-        )),
+        Some(register) => Some(spot_of(Refusal::LiveAtEntry { register }, x.section, x.offset)),
     }
 }
 
@@ -73,11 +69,7 @@ fn call_spot(sets: &Live, x: &Point) -> Option<Spot>
     }
     match first_after(sets, x.next) {
         None => None,
-        Some(register) => Some(spot_of(
-            Refusal::LiveAtReturn { register },
-            x.section,
-            x.offset,
-        )),
+        Some(register) => Some(spot_of(Refusal::LiveAtReturn { register }, x.section, x.offset)),
     }
 }
 

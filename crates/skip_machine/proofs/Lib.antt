@@ -5,7 +5,6 @@ pub mod Walks
 pub mod Further
 pub mod Schedules
 pub mod PlanTexts
-pub mod Calls
 pub mod Moving
 pub mod DecimalTexts
 pub mod Paces

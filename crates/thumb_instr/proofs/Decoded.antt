@@ -13,7 +13,7 @@ use Rattle.thumb_instr.specs.declared.refusals.ItPlace.{ItPlace}
 use Rattle.thumb_instr.specs.declared.instructions.Instr.{Instr}
 use Rattle.thumb_instr.specs.declared.instructions.Instr.TheVariants.{Alu, Move, Test, ShiftBy, Wide, Half, Field, Unary, Mul, MulAcc, LongMul, Div, Access, Pair, Multi, Literal, Adr, Branch, ZeroBranch, Call, Jump, CallReg, It, Nothing, Trap}
 use Rattle.thumb_instr.specs.Patterns.{decoded}
-use Rattle.thumb_instr.specs.DataRows.{reads_carry, is_rrx}
+use Rattle.thumb_instr.specs.DataRows.{is_rrx}
 use Rattle.thumb_instr.specs.Sets.{reads_of, sets_flags_of, operand_reads_of, sums_with_carry, logic_flags_of}
 use Rattle.thumb_instr.specs.HalfRows.{half_rows}
 use Rattle.thumb_instr.specs.FullRows.{full_rows}
@@ -50,18 +50,6 @@ reads_no_carry (Reg m Asr amount) names e = ap (λ (b : Bool). b || false) (no_f
 reads_no_carry (Reg m Ror amount) names e = ap (λ (b : Bool). b || false) (no_flag m names)
 reads_no_carry (Reg m Rrx amount) names e = (cc)
 
-sums_alone : (op : AluOp) → reads_carry op ≡ false → (sums_with_carry op && true) ≡ false
-sums_alone And e = refl
-sums_alone Bic e = refl
-sums_alone Orr e = refl
-sums_alone Orn e = refl
-sums_alone Eor e = refl
-sums_alone Add e = refl
-sums_alone Adc e = (cc)
-sums_alone Sbc e = (cc)
-sums_alone Sub e = refl
-sums_alone Rsb e = refl
-
 left_none : (a b : Bool) → a ≡ false → (a && b) ≡ false
 left_none true b e = (cc)
 left_none false b e = refl
@@ -80,8 +68,8 @@ unset_or_read r false t u e f = right_none r false refl
 
 pub carry_once : (i : Instr) → NamesRegisters i → carries i ≡ false → (reads_of i 18 && sets_flags_of i 18) ≡ false
 unfolding reads_of sets_flags_of
-carry_once (Alu i) names e = unset_or_read _ i.s (reads_carry i.op || is_rrx i.x) _ e (λ plain.
-    both_none (18 == i.n) _ (no_flag i.n names.1) (both_none (operand_reads_of i.x 18) _ (reads_no_carry i.x names.2 (second_none (reads_carry i.op) _ plain)) (sums_alone i.op (first_none (reads_carry i.op) _ plain))))
+carry_once (Alu i) names e = unset_or_read _ i.s (sums_with_carry i.op || is_rrx i.x) _ e (λ plain.
+    both_none (18 == i.n) _ (no_flag i.n names.1) (both_none (operand_reads_of i.x 18) _ (reads_no_carry i.x names.2 (second_none (sums_with_carry i.op) _ plain)) (left_none (sums_with_carry i.op) true (first_none (sums_with_carry i.op) _ plain))))
 carry_once (Move i) names e = unset_or_read _ i.s (is_rrx i.x) _ e (λ plain. reads_no_carry i.x names.1 plain)
 carry_once (Test i) names e = left_none _ _ (both_none (18 == i.n) _ (no_flag i.n names.0) (reads_no_carry i.x names.1 e))
 carry_once (ShiftBy i) names e = right_none _ _ (right_none i.s false refl)

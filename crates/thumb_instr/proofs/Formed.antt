@@ -29,7 +29,8 @@ use Rattle.thumb_instr.specs.declared.instructions.Instr.TheVariants as instr
 use Rattle.thumb_instr.specs.Operands.{is_operand, is_list}
 use Rattle.thumb_instr.specs.Patterns.{Bits, Fixed, Field, Made, Row, Answer, cut, fits, filled_in, decoded, refused}
 use Rattle.thumb_instr.specs.Meanings.{on_condition, when, alu, move, test, shift_by, wide, half, field, unary, mul, mul_acc, long_mul, div, access, pair, multi, literal, adr, branch, zero_branch, call, jump, call_reg, it, nothing, trap}
-use Rattle.thumb_instr.specs.DataRows.{names, is_rrx, reads_carry, shifted, alu_row, move_row, test_row, or_test, or_move, data_processing}
+use Rattle.thumb_instr.specs.Sets.{sums_with_carry}
+use Rattle.thumb_instr.specs.DataRows.{names, is_rrx, shifted, alu_row, move_row, test_row, or_test, or_move, data_processing}
 use Rattle.thumb_instr.specs.HalfRows.{half_rows}
 use Rattle.thumb_instr.specs.FullRows.{on_plain, many, two_words, exclusive, dual, wide_row, extract, insert, on_condition_branch, on_access, access_row, by_byte, by_register, product, full_rows}
 use Rattle.thumb_instr.specs.Rows.{is_wide, decode}
@@ -37,7 +38,7 @@ use Rattle.thumb_instr.specs.Formed.{IsRegister, IsSource, OperandNamesRegisters
 
 -- The instruction uses the carry, and sets flags where it may set C.
 abbrev pub carries : Instr → Bool
-carries (instr.Alu i) = i.s && (reads_carry i.op || is_rrx i.x)
+carries (instr.Alu i) = i.s && (sums_with_carry i.op || is_rrx i.x)
 carries (instr.Move i) = i.s && is_rrx i.x
 carries (instr.Test i) = is_rrx i.x
 carries i = false
@@ -138,7 +139,7 @@ not_set false t e = refl
 
 -- instructions
 
-pub alu_good : (w : Bool) (op : AluOp) (s : Bool) (d n : ℕ) (x : Operand) → IsRegister d → IsRegister n → OperandNamesRegisters x → (s && (reads_carry op || is_rrx x)) ≡ false → Good w (alu op s d n x)
+pub alu_good : (w : Bool) (op : AluOp) (s : Bool) (d n : ℕ) (x : Operand) → IsRegister d → IsRegister n → OperandNamesRegisters x → (s && (sums_with_carry op || is_rrx x)) ≡ false → Good w (alu op s d n x)
 alu_good w op s d n x hd hn hx c = when_good w (is_operand x) _ (λ e. record { formed = record { registers = (hd, hn, hx); fields = e; pc = tt }; carry = c; short = λ _. refl })
 
 pub move_good : (w : Bool) (op : MoveOp) (s : Bool) (d : ℕ) (x : Operand) → IsRegister d → OperandNamesRegisters x → (s && is_rrx x) ≡ false → Good w (move op s d x)
@@ -231,6 +232,11 @@ filled_good wide (Field w ∷ ps) f top h g = filled_good wide ps (f (cut h top 
 abbrev pub AllGood : Bool → List Row → Type 0
 AllGood wide [] = ⊤
 AllGood wide (r ∷ rows) = Fill wide r.pattern r.means × AllGood wide rows
+
+infixr 4 ◌&◌
+-- one row, and the rows behind it
+pub ◌&◌ : {A B : Type 0} → A → B → A × B
+a & b = (a, b)
 
 pub decoded_good : (wide : Bool) (size : ℕ) (rows : List Row) (h : ℕ) → AllGood wide rows → Good wide (decoded size rows h)
 decoded_good wide size [] h g = err_good wide _

@@ -3,7 +3,7 @@ use Rattle.std.proofs.Common.{◌≡◌, ◌<◌, ◌+◌, ◌-◌, ◌^◌, ℕ
 use Rattle.std.specs.Prelude.{◌==◌, ◌&&◌, ◌||◌, not, nat_lt}
 use Rattle.thumb_instr.specs.declared.operations.FieldOp.TheVariants.{Bfi, Bfc}
 use Rattle.thumb_instr.specs.Formed.{IsRegister, PlaceNamesRegisters}
-use Rattle.thumb_instr.proofs.Formed.{Good, AllGood, IsNear, err_good, if_good, if_two_good, first_none, second_none, register_but_pc, no_register, near_named, shifted_near, field_good, multi_good, mul_good, mul_acc_good, goods}
+use Rattle.thumb_instr.proofs.Formed.{Good, AllGood, ◌&◌, IsNear, err_good, if_good, if_two_good, first_none, second_none, register_but_pc, no_register, near_named, shifted_near, field_good, multi_good, mul_good, mul_acc_good, goods}
 use Rattle.thumb_instr.specs.declared.operations.AluOp.{AluOp}
 use Rattle.thumb_instr.specs.declared.operations.MoveOp.{MoveOp}
 use Rattle.thumb_instr.specs.declared.operations.TestOp.{TestOp}
@@ -148,4 +148,51 @@ ruleset full_goods = (plain_goods, shifted_near, many_good, dual_good, data_good
 
 pub full_good : (place : ItPlace) → AllGood true (full_rows place)
 unfolding full_rows
-full_good place = (λ w w-fits l l-fits n n-fits pc pc-fits lr lr-fits list list-fits. search (full_goods, goods), (λ w w-fits l l-fits n n-fits pc pc-fits lr lr-fits list list-fits. search (full_goods, goods), (λ p p-fits u u-fits w w-fits l l-fits n n-fits t t-fits s s-fits i i-fits. search (full_goods, goods), (λ o o-fits s s-fits n n-fits i3 i3-fits d d-fits i2 i2-fits k k-fits m m-fits. search (full_goods, goods), (λ i i-fits o o-fits s s-fits n n-fits i3 i3-fits d d-fits i8 i8-fits. search (full_goods, goods), (λ i i-fits n n-fits i3 i3-fits d d-fits i8 i8-fits. search (full_goods, goods), (λ i i-fits n n-fits i3 i3-fits d d-fits i8 i8-fits. search (full_goods, goods), (λ i i-fits i4 i4-fits i3 i3-fits d d-fits i8 i8-fits. search (full_goods, goods), (λ i i-fits i4 i4-fits i3 i3-fits d d-fits i8 i8-fits. search (full_goods, goods), (λ n n-fits i3 i3-fits d d-fits i2 i2-fits w w-fits. search (full_goods, goods), (λ n n-fits i3 i3-fits d d-fits i2 i2-fits w w-fits. search (full_goods, goods), (λ n n-fits i3 i3-fits d d-fits i2 i2-fits w w-fits. search (full_goods, goods), (λ s s-fits i10 i10-fits j j-fits k k-fits i11 i11-fits. search (full_goods, goods), (λ s s-fits i10 i10-fits j j-fits k k-fits i11 i11-fits. search (full_goods, goods), (search (full_goods, goods), (λ i i-fits. search (full_goods, goods), (λ option option-fits. search (full_goods, goods), (λ option option-fits. search (full_goods, goods), (λ option option-fits. search (full_goods, goods), (λ i i-fits. search (full_goods, goods), (λ n n-fits i i-fits. search (full_goods, goods), (λ i i-fits. search (full_goods, goods), (λ s s-fits c c-fits i6 i6-fits j j-fits k k-fits i11 i11-fits. search (full_goods, goods), (λ u u-fits t t-fits i i-fits. search (full_goods, goods), (search (full_goods, goods), (λ g g-fits z z-fits l l-fits n n-fits t t-fits i i-fits. search (full_goods, goods), (λ g g-fits z z-fits l l-fits n n-fits t t-fits p p-fits u u-fits w w-fits i i-fits. search (full_goods, goods), (λ g g-fits z z-fits l l-fits n n-fits t t-fits shift shift-fits m m-fits. search (full_goods, goods), (λ k k-fits s s-fits n n-fits d d-fits m m-fits. search (full_goods, goods), (λ d d-fits r r-fits m m-fits. search (full_goods, goods), (λ d d-fits r r-fits m m-fits. search (full_goods, goods), (λ d d-fits r r-fits m m-fits. search (full_goods, goods), (λ d d-fits r r-fits m m-fits. search (full_goods, goods), (λ n n-fits d d-fits m m-fits. search (full_goods, goods), (λ n n-fits d d-fits m m-fits. search (full_goods, goods), (λ n n-fits d d-fits m m-fits. search (full_goods, goods), (λ n n-fits d d-fits m m-fits. search (full_goods, goods), (λ n n-fits d d-fits m m-fits. search (full_goods, goods), (λ n n-fits a a-fits d d-fits m m-fits. search (full_goods, goods), (λ n n-fits a a-fits d d-fits m m-fits. search (full_goods, goods), (λ n n-fits lo lo-fits hi hi-fits m m-fits. search (full_goods, goods), (λ n n-fits lo lo-fits hi hi-fits m m-fits. search (full_goods, goods), (λ n n-fits lo lo-fits hi hi-fits m m-fits. search (full_goods, goods), (λ n n-fits lo lo-fits hi hi-fits m m-fits. search (full_goods, goods), (λ n n-fits d d-fits m m-fits. search (full_goods, goods), (λ n n-fits d d-fits m m-fits. search (full_goods, goods), tt))))))))))))))))))))))))))))))))))))))))))))))
+full_good place =
+    (λ w w-fits l l-fits n n-fits pc pc-fits lr lr-fits list list-fits. search (full_goods, goods))
+    & (λ w w-fits l l-fits n n-fits pc pc-fits lr lr-fits list list-fits. search (full_goods, goods))
+    & (λ p p-fits u u-fits w w-fits l l-fits n n-fits t t-fits s s-fits i i-fits. search (full_goods, goods))
+    & (λ o o-fits s s-fits n n-fits i3 i3-fits d d-fits i2 i2-fits k k-fits m m-fits. search (full_goods, goods))
+    & (λ i i-fits o o-fits s s-fits n n-fits i3 i3-fits d d-fits i8 i8-fits. search (full_goods, goods))
+    & (λ i i-fits n n-fits i3 i3-fits d d-fits i8 i8-fits. search (full_goods, goods))
+    & (λ i i-fits n n-fits i3 i3-fits d d-fits i8 i8-fits. search (full_goods, goods))
+    & (λ i i-fits i4 i4-fits i3 i3-fits d d-fits i8 i8-fits. search (full_goods, goods))
+    & (λ i i-fits i4 i4-fits i3 i3-fits d d-fits i8 i8-fits. search (full_goods, goods))
+    & (λ n n-fits i3 i3-fits d d-fits i2 i2-fits w w-fits. search (full_goods, goods))
+    & (λ n n-fits i3 i3-fits d d-fits i2 i2-fits w w-fits. search (full_goods, goods))
+    & (λ n n-fits i3 i3-fits d d-fits i2 i2-fits w w-fits. search (full_goods, goods))
+    & (λ s s-fits i10 i10-fits j j-fits k k-fits i11 i11-fits. search (full_goods, goods))
+    & (λ s s-fits i10 i10-fits j j-fits k k-fits i11 i11-fits. search (full_goods, goods))
+    & (search (full_goods, goods))
+    & (λ i i-fits. search (full_goods, goods))
+    & (λ option option-fits. search (full_goods, goods))
+    & (λ option option-fits. search (full_goods, goods))
+    & (λ option option-fits. search (full_goods, goods))
+    & (λ i i-fits. search (full_goods, goods))
+    & (λ n n-fits i i-fits. search (full_goods, goods))
+    & (λ i i-fits. search (full_goods, goods))
+    & (λ s s-fits c c-fits i6 i6-fits j j-fits k k-fits i11 i11-fits. search (full_goods, goods))
+    & (λ u u-fits t t-fits i i-fits. search (full_goods, goods))
+    & (search (full_goods, goods))
+    & (λ g g-fits z z-fits l l-fits n n-fits t t-fits i i-fits. search (full_goods, goods))
+    & (λ g g-fits z z-fits l l-fits n n-fits t t-fits p p-fits u u-fits w w-fits i i-fits. search (full_goods, goods))
+    & (λ g g-fits z z-fits l l-fits n n-fits t t-fits shift shift-fits m m-fits. search (full_goods, goods))
+    & (λ k k-fits s s-fits n n-fits d d-fits m m-fits. search (full_goods, goods))
+    & (λ d d-fits r r-fits m m-fits. search (full_goods, goods))
+    & (λ d d-fits r r-fits m m-fits. search (full_goods, goods))
+    & (λ d d-fits r r-fits m m-fits. search (full_goods, goods))
+    & (λ d d-fits r r-fits m m-fits. search (full_goods, goods))
+    & (λ n n-fits d d-fits m m-fits. search (full_goods, goods))
+    & (λ n n-fits d d-fits m m-fits. search (full_goods, goods))
+    & (λ n n-fits d d-fits m m-fits. search (full_goods, goods))
+    & (λ n n-fits d d-fits m m-fits. search (full_goods, goods))
+    & (λ n n-fits d d-fits m m-fits. search (full_goods, goods))
+    & (λ n n-fits a a-fits d d-fits m m-fits. search (full_goods, goods))
+    & (λ n n-fits a a-fits d d-fits m m-fits. search (full_goods, goods))
+    & (λ n n-fits lo lo-fits hi hi-fits m m-fits. search (full_goods, goods))
+    & (λ n n-fits lo lo-fits hi hi-fits m m-fits. search (full_goods, goods))
+    & (λ n n-fits lo lo-fits hi hi-fits m m-fits. search (full_goods, goods))
+    & (λ n n-fits lo lo-fits hi hi-fits m m-fits. search (full_goods, goods))
+    & (λ n n-fits d d-fits m m-fits. search (full_goods, goods))
+    & (λ n n-fits d d-fits m m-fits. search (full_goods, goods))
+    & tt

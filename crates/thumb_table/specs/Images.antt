@@ -7,15 +7,13 @@ use Rattle.elf_model.specs.declared.ranges.RangeKind.TheVariants.{Data}
 use Rattle.elf_model.specs.Fields.{byte_at, same_name}
 use Rattle.elf_model.specs.Objects.{ObjectParts, is_code}
 pub use Rattle.elf_model.specs.Objects.{is_data, even}
-use Rattle.elf_model.specs.Canonical.{round_up}
 use Rattle.elf_model.specs.Ranges.{IsBeginning}
-use Rattle.mark_word.specs.declared.marks.Mark.TheVariants.{Plain, Return}
-use Rattle.mark_word.specs.Words.{Word, Cell, plain, bare}
+use Rattle.mark_word.specs.declared.marks.Mark.TheVariants.{Plain}
+use Rattle.mark_word.specs.Words.{bare}
 use Rattle.thumb_table.specs.declared.placements.Placement.{Placement}
 use Rattle.thumb_table.specs.declared.parts.PlaceMark.{PlaceMark}
 use Rattle.thumb_table.specs.declared.parts.NamedEntry.{NamedEntry}
 use Rattle.thumb_table.specs.Parts.{Image, Memory}
-use Rattle.thumb_table.specs.States.{State}
 use Rattle.reloc_places.specs.Relocations.{IsRight}
 use Rattle.thumb_table.specs.Layouts.{Placed, IsPlacement, all_placed, as_part, code_bytes_of, data_bytes_of}
 use Rattle.thumb_table.specs.Names.{Defined, all_symbols, is_function, address_of, entries_of}
@@ -86,34 +84,3 @@ entry_of (e ∷ rest) name = if same_name e.name name then Some e.address else e
 abbrev pub image_bytes : Image → List ℕ
 image_bytes image =
     image.code.bytes ++ replicate (image.room - length image.code.bytes) 0 ++ map (λ c. c.byte) image.memory.cells
-
--- the memory of a run: the data, rounded up to a multiple of 8, and the stack
-abbrev pub run_cells : Image → ℕ → List Cell
-run_cells image stack =
-    image.memory.cells ++ replicate (round_up (length image.memory.cells) 8 - length image.memory.cells) (bare 0) ++ replicate stack (bare 0)
-
--- how many arguments go to registers
-abbrev pub argument : List ℕ → ℕ → Word
-argument [] k = plain 0
-argument (a ∷ rest) zero = plain a
-argument (a ∷ rest) (suc k) = argument rest k
-
--- A call starts so: arguments from r0 on, sp at the stack's end, lr where the call ends, all else 0.
-abbrev pub start_regs : List ℕ → ℕ → List Word
-start_regs args sp =
-    argument args 0 ∷ argument args 1 ∷ argument args 2 ∷ argument args 3 ∷ replicate 9 (plain 0)
-    ++ plain sp ∷ record { bits = 0x7FFFFFFF; mark = Return 0x7FFFFFFF } ∷ []
-
-abbrev pub start : Image → ℕ → ℕ → List ℕ → State
-start image stack entry args = record {
-  pc = even entry;
-  core = record {
-    regs = start_regs args (image.memory.base + length (run_cells image stack));
-    n = false;
-    z = false;
-    c = false;
-    v = false;
-    it = 0;
-    memory = record { base = image.memory.base; cells = run_cells image stack };
-  };
-}

@@ -11,5 +11,7 @@ pub mod Names
 pub mod Links
 pub mod LinkFaults
 pub mod Images
+pub mod Calls
+pub mod CoreStates
 pub mod Views
 pub mod Results
