@@ -1,4 +1,4 @@
-use Rattle.std.proofs.Common.{◌∙◌, ◌/◌, List, [], ◌∷◌, ap, ap₂, length, arith}
+use Rattle.std.proofs.Common.{◌∙◌, ◌/◌, [], ◌∷◌, ap, ap₂, length, arith}
 use Rattle.elf_model.specs.declared.objects.Section.{Section}
 use Rattle.elf_model.specs.Maps.{map_section}
 use Rattle.guard_cli.specs.FirstForm.{text_section}
