@@ -1,5 +1,5 @@
 pub mod SpotFacts
-mod KindFacts
+pub mod KindFacts
 pub mod ObjectFacts
 pub mod PlaceOrder
 pub mod MarkFacts

@@ -7,12 +7,10 @@ ghost use Rattle.code_ranges.specs.Spots.{spot_of, unmapped_spot, unmapped_spots
 ghost use Rattle.code_ranges.specs.CodeRanges.{comes_before};
 
 use crate::spans::Span;
+use elf_model::numbers::FUNC;
 use elf_model::{Home, RangeKind, Refusal, Section, Spot, Symbol, is_code};
 use std::alloc::{AllocError, Global};
 use std::collections::BTreeMap;
-
-/// The kind of a function.
-pub const FUNC: u8 = 2;
 
 /// The spot of a refusal, with file 0.
 pub fn spot_of(refusal: Refusal, section: u32, offset: u32) -> Spot

@@ -6,7 +6,7 @@ mod laws;
 mod ranges;
 mod spans;
 
-pub use faults::{FUNC, first_of, spot_of};
+pub use faults::{first_of, spot_of};
 pub use laws::objects_have_one_list_of_ranges;
 pub use ranges::{Range, all_ranges, code_ranges};
-pub use spans::Span;
+pub use spans::{Span, kinds_by_place};

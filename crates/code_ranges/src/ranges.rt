@@ -7,7 +7,7 @@ ghost use Rattle.code_ranges.specs.AllRanges.{AreAllRanges};
 ghost use Rattle.code_ranges.specs.CodeRanges.{AreRanges, IsRangeDenial};
 
 use crate::faults::{first_of, spots_of};
-use crate::spans::{Span, marks_of, spans_of, starts_of};
+use crate::spans::{Span, kinds_by_place, marks_of, spans_of};
 use elf_model::{Deny, Limit, Object, RangeKind};
 use std::alloc::{AllocError, Global};
 
@@ -49,7 +49,7 @@ pub fn all_ranges(alloc: Global, o: &Object) -> Result<Vec<Span>, AllocError>
     ensures { IfOk result (λ spans. AreAllRanges o.now spans.items) }
 {
     o.sound();
-    let starts = starts_of(alloc, o.symbols())?;
+    let starts = kinds_by_place(alloc, o.symbols())?;
     let marks = marks_of(alloc, &starts)?;
     spans_of(alloc, o.sections(), &marks)
 }
@@ -63,7 +63,7 @@ pub fn code_ranges(alloc: Global, o: &Object) -> Result<Vec<Range>, Deny>
     ensures refused { IfErr result (λ why. IsRangeDenial o.now why) }
 {
     o.sound();
-    let starts = starts_of(alloc, o.symbols())?;
+    let starts = kinds_by_place(alloc, o.symbols())?;
     let marks = marks_of(alloc, &starts)?;
     let spans = spans_of(alloc, o.sections(), &marks)?;
     let spots = spots_of(alloc, o.sections(), o.symbols(), &starts, &spans)?;

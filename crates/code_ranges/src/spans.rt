@@ -55,7 +55,7 @@ fn note_symbol(starts: &mut BTreeMap<(u32, u32), RangeKind>, s: &Symbol) -> Resu
 }
 
 /// What begins at each place by the last mapping symbol there.
-pub(crate) fn starts_of(
+pub fn kinds_by_place(
     alloc: Global,
     symbols: &[Symbol],
 ) -> Result<BTreeMap<(u32, u32), RangeKind>, AllocError>

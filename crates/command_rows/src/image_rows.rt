@@ -8,6 +8,71 @@ use std::test::Fail;
 
 const LINKED: &str = "linked 8 bytes of code, 0 bytes of data\n";
 
+/// The words behind `run --base 0x8000 --entry f`, the status and the text.
+const RUNS: [(&str, u8, &str); 13] = [
+    (
+        "--room 64 --arg 9 --steps 10 b.o",
+        0,
+        "returned after 3 steps, r0 0x00000005, ordinary yes\n",
+    ),
+    (
+        "--room 64 --arg 9 --steps 10 --skip 0 b.o",
+        0,
+        "returned after 3 steps, r0 0x00000005, ordinary yes\n",
+    ),
+    (
+        "--room 64 --arg 9 --steps 10 --skip 2 b.o",
+        0,
+        "returned after 4 steps, r0 0x00000005, ordinary yes\n",
+    ),
+    (
+        "--room 64 --arg 9 --steps 10 --skip 0,2 b.o",
+        0,
+        "returned after 4 steps, r0 0x00000005, ordinary yes\n",
+    ),
+    (
+        "--room 64 --arg 9 --steps 10 --skip 0 a.o",
+        0,
+        "returned after 2 steps, r0 0x00000009, ordinary yes\n",
+    ),
+    (
+        "--room=64 --steps=10 --skip=0 a.o",
+        0,
+        "returned after 2 steps, r0 0x00000000, ordinary yes\n",
+    ),
+    (
+        "--room 64 --arg 9 --steps 2 b.o",
+        5,
+        "unfinished after 2 steps\n",
+    ),
+    (
+        "--room 64 --steps 10 --skip 1 a.o",
+        5,
+        "stopped BadFetch at 0x00008004 after 2 steps\n",
+    ),
+    ("--room 64 --arg 9 --steps 10 --skip 0,1 b.o", 2, USAGE),
+    (
+        "--room 8 --arg 9 --steps 10 adds.o",
+        0,
+        "returned after 2 steps, r0 0x0000000a, ordinary yes\n",
+    ),
+    (
+        "--room 64 --arg 3 --steps 10000 loops.o",
+        0,
+        "returned after 2002 steps, r0 0x00000003, ordinary yes\n",
+    ),
+    (
+        "--room 64 --arg 9 --steps 10 lr.o",
+        0,
+        "returned after 3 steps, r0 0x80000000, ordinary no\n",
+    ),
+    (
+        "--room 64 --arg 9 --steps 10 loads.o",
+        5,
+        "stopped BadAddress at 0x00008000 after 0 steps\n",
+    ),
+];
+
 /// A command over the files of these rows.
 fn prints(
     rt: &impl Abort,
@@ -43,69 +108,7 @@ fn prints(
 
 #[test]
 fn runs_functions(rt: HostRuntime) -> Result<(), Fail> {
-    for (line, status, text) in [
-        (
-            "--room 64 --arg 9 --steps 10 b.o",
-            0,
-            "returned after 3 steps, r0 0x00000005, ordinary yes\n",
-        ),
-        (
-            "--room 64 --arg 9 --steps 10 --skip 0 b.o",
-            0,
-            "returned after 3 steps, r0 0x00000005, ordinary yes\n",
-        ),
-        (
-            "--room 64 --arg 9 --steps 10 --skip 2 b.o",
-            0,
-            "returned after 4 steps, r0 0x00000005, ordinary yes\n",
-        ),
-        (
-            "--room 64 --arg 9 --steps 10 --skip 0,2 b.o",
-            0,
-            "returned after 4 steps, r0 0x00000005, ordinary yes\n",
-        ),
-        (
-            "--room 64 --arg 9 --steps 10 --skip 0 a.o",
-            0,
-            "returned after 2 steps, r0 0x00000009, ordinary yes\n",
-        ),
-        (
-            "--room=64 --steps=10 --skip=0 a.o",
-            0,
-            "returned after 2 steps, r0 0x00000000, ordinary yes\n",
-        ),
-        (
-            "--room 64 --arg 9 --steps 2 b.o",
-            5,
-            "unfinished after 2 steps\n",
-        ),
-        (
-            "--room 64 --steps 10 --skip 1 a.o",
-            5,
-            "stopped BadFetch at 0x00008004 after 2 steps\n",
-        ),
-        ("--room 64 --arg 9 --steps 10 --skip 0,1 b.o", 2, USAGE),
-        (
-            "--room 8 --arg 9 --steps 10 adds.o",
-            0,
-            "returned after 2 steps, r0 0x0000000a, ordinary yes\n",
-        ),
-        (
-            "--room 64 --arg 3 --steps 10000 loops.o",
-            0,
-            "returned after 2002 steps, r0 0x00000003, ordinary yes\n",
-        ),
-        (
-            "--room 64 --arg 9 --steps 10 lr.o",
-            0,
-            "returned after 3 steps, r0 0x80000000, ordinary no\n",
-        ),
-        (
-            "--room 64 --arg 9 --steps 10 loads.o",
-            5,
-            "stopped BadAddress at 0x00008000 after 0 steps\n",
-        ),
-    ] {
+    for (line, status, text) in RUNS {
         let line = format!(in rt.alloc(); "run --base 0x8000 --entry f {line}")?;
         prints(&rt, rt.alloc(), &line, (&[], &[]), (status, text, None))?;
     }

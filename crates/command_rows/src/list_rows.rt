@@ -1,63 +1,72 @@
-use crate::calls::{Answer, Call, answers};
+use crate::calls::{Call, answers};
 use crate::files::{PLAIN, of_code, plain_with};
+use std::alloc::Global;
+use std::process::Abort;
 use std::test::Fail;
 
-/// What `list a.o` prints of each file.
+/// Bytes, how many of them there are, where code begins, and the listing.
+type Row = ([u8; 10], u8, u8, &'static str);
+
+const ROWS: [Row; 3] = [
+    (
+        [0x08, 0xbf, 0x01, 0x20, 0x70, 0x47, 0, 0, 0, 0],
+        6,
+        0,
+        "section 0 .text\n00000000  it eq, #8\n00000002  mov r0, #1\n00000004  bx lr\n",
+    ),
+    // Data, of which some bytes make no word, and half an instruction.
+    (
+        [0x00, 0x20, 0x01, 0x20, 0x02, 0x20, 0x03, 0x20, 0x70, 0x47],
+        9,
+        6,
+        "section 0 .text\n00000000  .word 0x20012000\n00000004  .byte 0x02\n00000005  .byte 0x20\n00000006  movs r0, #3\n00000008  .byte 0x70\n",
+    ),
+    // What is no instruction, in an IT block and at the end.
+    (
+        [0x04, 0xbf, 0xff, 0xff, 0xff, 0xff, 0x01, 0x20, 0x00, 0xf0],
+        10,
+        0,
+        "section 0 .text\n00000000  it eq, #4\n00000002  .short 0xffff\n00000004  .short 0xffff\n00000006  mov r0, #1\n00000008  .short 0xf000\n",
+    ),
+];
+
+/// What `list a.o` says of a file.
+fn says(rt: &impl Abort, alloc: Global, file: &[u8], status: u8, text: &str) -> Result<(), Fail> {
+    let call = Call {
+        words: "list a.o",
+        files: &[("a.o", file)],
+        shelf_fails: &[],
+        sink_fails: &[],
+    };
+    answers(rt, alloc, &call, "b.o", (status, text, None))
+}
+
 #[test]
-fn lists_files(rt: HostRuntime) -> Result<(), Fail> {
+fn lists_code_and_data(rt: HostRuntime) -> Result<(), Fail> {
+    for (bytes, size, start, text) in ROWS {
+        says(&rt, rt.alloc(), &of_code(bytes, size, start), 0, text)?;
+    }
+    Ok(())
+}
+
+#[test]
+fn lists_and_refuses_files(rt: HostRuntime) -> Result<(), Fail> {
     let bare = plain_with(48, 0);
-    let block = of_code([0x08, 0xbf, 0x01, 0x20, 0x70, 0x47, 0, 0, 0, 0], 6, 0);
-    let data = [0x00, 0x20, 0x01, 0x20, 0x02, 0x20, 0x03, 0x20, 0x70, 0x47];
-    let none = [0x04, 0xbf, 0xff, 0xff, 0xff, 0xff, 0x01, 0x20, 0x00, 0xf0];
-    let rows: [(&[u8], Answer<'_>); 6] = [
+    let rows: [(&[u8], u8, &str); 3] = [
         (
             &PLAIN,
-            (
-                0,
-                "section 0 .text\n00000000  movs r0, #5\n00000002  bx lr\n",
-                None,
-            ),
+            0,
+            "section 0 .text\n00000000  movs r0, #5\n00000002  bx lr\n",
         ),
-        (
-            &block,
-            (
-                0,
-                "section 0 .text\n00000000  it eq, #8\n00000002  mov r0, #1\n00000004  bx lr\n",
-                None,
-            ),
-        ),
-        // Data, of which some bytes make no word, and half an instruction.
-        (
-            &of_code(data, 9, 6),
-            (
-                0,
-                "section 0 .text\n00000000  .word 0x20012000\n00000004  .byte 0x02\n00000005  .byte 0x20\n00000006  movs r0, #3\n00000008  .byte 0x70\n",
-                None,
-            ),
-        ),
-        // What is no instruction, in an IT block and at the end.
-        (
-            &of_code(none, 10, 0),
-            (
-                0,
-                "section 0 .text\n00000000  it eq, #4\n00000002  .short 0xffff\n00000004  .short 0xffff\n00000006  mov r0, #1\n00000008  .short 0xf000\n",
-                None,
-            ),
-        ),
-        (&bare[..52], (0, "", None)),
+        (&bare[..52], 0, ""),
         (
             &PLAIN[..51],
-            (1, "a.o: refused 1 NotElf section 0 offset 0\n", None),
+            1,
+            "a.o: refused 1 NotElf section 0 offset 0\n",
         ),
     ];
-    for (file, want) in rows {
-        let call = Call {
-            words: "list a.o",
-            files: &[("a.o", file)],
-            shelf_fails: &[],
-            sink_fails: &[],
-        };
-        answers(&rt, rt.alloc(), &call, "b.o", want)?;
+    for (file, status, text) in rows {
+        says(&rt, rt.alloc(), file, status, text)?;
     }
     Ok(())
 }

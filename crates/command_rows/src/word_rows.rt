@@ -17,61 +17,63 @@ fn says(rt: &impl Abort, alloc: Global, words: &str, status: u8, text: &str) -> 
 }
 
 /// What each line says, where a name or a number of it shows.
+const COMMANDS: [(&str, u8, &str); 11] = [
+    ("list help", 3, "help: read fault\n"),
+    (
+        "harden a.o b.o c.o d.o",
+        1,
+        "a.o: refused 32 NotYet section 0 offset 0\n",
+    ),
+    (
+        "link --room=0x80000 --base=0 i.bin b.o",
+        0,
+        "linked 8 bytes of code, 0 bytes of data\n",
+    ),
+    (
+        "link --base 4294963200 --room=8 =o b.o",
+        1,
+        "b.o: refused 28 DoesNotFit section 0 offset 0\n",
+    ),
+    (
+        "link --base 0x8000 --room 64 i.bin b.o c.o",
+        1,
+        "b.o: refused 32 NotYet section 0 offset 0\n",
+    ),
+    (
+        "run --skip=0,2 --steps=10000000 --entry==f --base 0x1000 --room 64 b.o",
+        1,
+        "b.o: refused 30 NoEntry section 0 offset 0\n",
+    ),
+    (
+        "run --skip=0,2 --steps=10000000 --entry f --base 0x1000 --room 64 b.o",
+        0,
+        "returned after 4 steps, r0 0x00000005, ordinary yes\n",
+    ),
+    (
+        "run --arg 0xffffffff --skip 0 --steps 0x2 --entry f --base 0x1000 --room 64 a.o",
+        0,
+        "returned after 2 steps, r0 0xffffffff, ordinary yes\n",
+    ),
+    (
+        "run --arg 4294967295 --skip 0 --steps 1 --entry f --base 0x1000 --room 64 a.o",
+        5,
+        "unfinished after 1 steps\n",
+    ),
+    (
+        "run --seed 4294967295 --steps 1 --entry f --base 0x1000 --room 64 b.o",
+        1,
+        "b.o: refused 32 NotYet section 0 offset 0\n",
+    ),
+    (
+        "run --skip 0 --steps 1 --entry f --base 0x1000 --room 64 b.o c.o",
+        1,
+        "b.o: refused 32 NotYet section 0 offset 0\n",
+    ),
+];
+
 #[test]
 fn reads_commands(rt: HostRuntime) -> Result<(), Fail> {
-    for (line, status, text) in [
-        ("list help", 3, "help: read fault\n"),
-        (
-            "harden a.o b.o c.o d.o",
-            1,
-            "a.o: refused 32 NotYet section 0 offset 0\n",
-        ),
-        (
-            "link --room=0x80000 --base=0 i.bin b.o",
-            0,
-            "linked 8 bytes of code, 0 bytes of data\n",
-        ),
-        (
-            "link --base 4294963200 --room=8 =o b.o",
-            1,
-            "b.o: refused 28 DoesNotFit section 0 offset 0\n",
-        ),
-        (
-            "link --base 0x8000 --room 64 i.bin b.o c.o",
-            1,
-            "b.o: refused 32 NotYet section 0 offset 0\n",
-        ),
-        (
-            "run --skip=0,2 --steps=10000000 --entry==f --base 0x1000 --room 64 b.o",
-            1,
-            "b.o: refused 30 NoEntry section 0 offset 0\n",
-        ),
-        (
-            "run --skip=0,2 --steps=10000000 --entry f --base 0x1000 --room 64 b.o",
-            0,
-            "returned after 4 steps, r0 0x00000005, ordinary yes\n",
-        ),
-        (
-            "run --arg 0xffffffff --skip 0 --steps 0x2 --entry f --base 0x1000 --room 64 a.o",
-            0,
-            "returned after 2 steps, r0 0xffffffff, ordinary yes\n",
-        ),
-        (
-            "run --arg 4294967295 --skip 0 --steps 1 --entry f --base 0x1000 --room 64 a.o",
-            5,
-            "unfinished after 1 steps\n",
-        ),
-        (
-            "run --seed 4294967295 --steps 1 --entry f --base 0x1000 --room 64 b.o",
-            1,
-            "b.o: refused 32 NotYet section 0 offset 0\n",
-        ),
-        (
-            "run --skip 0 --steps 1 --entry f --base 0x1000 --room 64 b.o c.o",
-            1,
-            "b.o: refused 32 NotYet section 0 offset 0\n",
-        ),
-    ] {
+    for (line, status, text) in COMMANDS {
         says(&rt, rt.alloc(), line, status, text)?;
     }
     Ok(())

@@ -11,7 +11,7 @@ use Rattle.elf_model.specs.declared.refusals.Refusal.TheVariants.{BadReloc}
 use Rattle.elf_model.specs.Constants.{rel, nobits}
 use Rattle.elf_model.specs.Fields.{word_at}
 use Rattle.elf_model.specs.Objects.{code_width}
-use Rattle.elf_model.specs.Files.{header, header_count, header_place, is_kept, IsKind}
+use Rattle.elf_model.specs.Files.{Header, header, header_count, header_place, is_kept, IsKind}
 use Rattle.elf_read.specs.declared.places.Place.{Place}
 use Rattle.elf_read.specs.Faults.{Fault, IsHeader, IsRelocAt, IsKeptSymbol}
 use Rattle.elf_read.specs.Faults.Fault.{bad_symbol, bad_place, second_place, nobits_target}
@@ -211,6 +211,12 @@ module _ (b : List ℕ) where
   no_entries h n e none o f = none f.0 o (let t = f.1.stands.there in omega (arith, t, e)) f.1
 
 -- where the entries of a header stand
+-- entry j of a header of relocations, which was read: it stands there, and lies in the file
+pub record EntryHere (b : List ℕ) (h j : ℕ) (f : Header) : Type 0 where
+  pub stands : IsRelocAt b h j (f.offset + 8 * j)
+  pub inside : f.offset + 8 * j + 8 ≤ length b
+  pub info : f.info ≡ (header b h).info
+
 module _ (b : List ℕ) (h : ℕ) (tabled : IsTabled b) (i : IsHeader b h) (k : is_kept_relocs b h ≡ true) where
   is_rel : IsKind b h rel
   is_rel = (i.behind_null, i.there, eqb-true _ _ (and_parts ((header b h).kind == rel) (is_kept b (header b h).info) k).0)
@@ -226,6 +232,16 @@ module _ (b : List ℕ) (h : ℕ) (tabled : IsTabled b) (i : IsHeader b h) (k : 
 
   pub entry_at : (j : ℕ) → j < (header b h).size / 8 → IsRelocAt b h j ((header b h).offset + 8 * j)
   entry_at j l = record { table = is_rel; of_kept = (and_parts ((header b h).kind == rel) (is_kept b (header b h).info) k).1; there = l; place = refl }
+
+  pub entry_here : (j : ℕ) (f : Header) → f ≡ header b h → j < f.size / 8 → EntryHere b h j f
+  entry_here j f same lt =
+      let many : j < (header b h).size / 8 = subst (λ (x : Header). j < x.size / 8) same lt in
+      let place : f.offset ≡ (header b h).offset = ap (λ (x : Header). x.offset) same in
+      record {
+        stands = subst (λ (o : ℕ). IsRelocAt b h j (o + 8 * j)) (sym place) (entry_at j many);
+        inside = omega (arith, entry_inside j many, place);
+        info = ap (λ (x : Header). x.info) same;
+      }
 
   pub lowest_target : (p : Place) → p.section ≡ h → p.offset ≡ header_place b h + 28 → (header b (header b h).info).kind ≡ nobits → IsLowestIn (TargetFault b h) h (Some p)
   lowest_target p e f n = (e, (is_rel, (and_parts ((header b h).kind == rel) (is_kept b (header b h).info) k).1, n, f), λ o t l. omega (arith, t.3, f, l))

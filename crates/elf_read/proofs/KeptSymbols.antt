@@ -114,6 +114,13 @@ module _ (b : List ℕ) (tabled : IsTabled b) (homes : HasHomes b) where
       let e : ℕ = (header b at.0).offset + 16 * k in
       record { table = at.0; e = e; stands = at.1; home = home_of e (sym (symbol_flag_is b at.0 k e tabled at.1) ∙ h) }
 
+  -- the flags that were computed say which symbols are kept
+  pub flags_tell : (flags : List Bool) → flags ≡ symbol_flags b → ((k : ℕ) → IsKeptSymbol b k → flag_at flags k ≡ true) × ((k : ℕ) → flag_at flags k ≡ true → IsKeptSymbol b k)
+  flags_tell flags same = (
+    λ k s. ap (λ (f : List Bool). flag_at f k) same ∙ flag_from_kept k s,
+    λ k t. kept_from_flag k (ap (λ (f : List Bool). flag_at f k) (sym same) ∙ t),
+  )
+
 -- the section that a symbol is kept with
 pub kept_home : (b : List ℕ) (e : ℕ) → is_kept_symbol b e ≡ true → half_at b (e + 14) ≢ undefined_index → half_at b (e + 14) ≢ absolute_index → IsHeader b (half_at b (e + 14)) × (is_kept b (half_at b (e + 14)) ≡ true)
 kept_home b e h other far =

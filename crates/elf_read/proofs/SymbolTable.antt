@@ -3,7 +3,7 @@ use Rattle.std.proofs.Common.{◌≡◌, ◌≢◌, ◌<◌, ◌≤◌, ℕ, zer
 use Rattle.std.specs.Prelude.{find, ◌==◌}
 use Rattle.std.proofs.lemmas.Bool.{false≢true, cases_eq, cases_Bool, eqb-true, eq-eqb}
 use Rattle.elf_model.specs.Constants.{symtab, nobits}
-use Rattle.elf_model.specs.Files.{from, header_count, header, IsKind, symbol_table}
+use Rattle.elf_model.specs.Files.{from, Header, header_count, header, IsKind, symbol_table}
 use Rattle.elf_read.specs.Faults.{IsSymbolAt}
 use Rattle.elf_read.specs.HeaderFaults.{IsTabled}
 use Rattle.elf_read.specs.Headers.{HasHeaders}
@@ -73,6 +73,27 @@ symbol_inside b t k tabled kind lt =
     let filled : (header b t).kind ≢ nobits = λ e. omega (arith, kind.2, e) in
     let inside = tabled.inside t (record { behind_null = kind.0; there = kind.1 }) filled in
     omega (arith, inside)
+
+-- symbol k of the symbol table, whose header was read: it is there, and lies in the file
+pub record IsHere (b : List ℕ) (t k : ℕ) (f : Header) : Type 0 where
+  pub kind : IsKind b t symtab
+  pub there : k < (header b t).size / 16
+  pub place : f.offset + 16 * k ≡ (header b t).offset + 16 * k
+  pub inside : f.offset + 16 * k + 16 ≤ length b
+  pub link : f.link ≡ (header b t).link
+
+pub symbol_here : (b : List ℕ) (t k : ℕ) (f : Header) → IsTabled b → Some t ≡ symbol_table b → f ≡ header b t → k < f.size / 16 → IsHere b t k f
+symbol_here b t k f tabled found same lt =
+    let kind = table_kind b t found in
+    let there : k < (header b t).size / 16 = subst (λ (x : Header). k < x.size / 16) same lt in
+    let place : f.offset + 16 * k ≡ (header b t).offset + 16 * k = ap (λ (x : Header). x.offset + 16 * k) same in
+    record {
+      kind = kind;
+      there = there;
+      place = place;
+      inside = omega (arith, symbol_inside b t k tabled kind there, place);
+      link = ap (λ (x : Header). x.link) same;
+    }
 
 pub no_table_more : (b : List ℕ) (h : ℕ) → NoTable b h → (header b h).kind ≢ symtab → NoTable b (h + 1)
 no_table_more b h none here k low high =

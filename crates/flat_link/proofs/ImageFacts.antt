@@ -2,10 +2,10 @@
 use Rattle.std.proofs.Common.{◌≡◌, ◌≤◌, ◌<◌, ℕ, suc, ◌+◌, ◌-◌, Bool, true, false, cond, List, [], ◌∷◌, ◌++◌, length, map, filter, take, refl, sym, ap, ◌∙◌, subst, inl, inr, arith, Option, Some, None}
 use Rattle.std.specs.Prelude.{Contains, slice_get, max, ◌&&◌}
 use Rattle.std.specs.List.{list_all}
-use Rattle.std.proofs.lemmas.Bool.{and_from, and_left, cases_order, both_ways}
+use Rattle.std.proofs.lemmas.Bool.{and_from, and_left, both_ways}
 use Rattle.std.proofs.lemmas.Option.{slice_get_within}
 use Rattle.std.proofs.lemmas.List.{append-nil}
-use Rattle.std.proofs.lemmas.List.Elements.{All-cons, All-nil, Contains-append_cases}
+use Rattle.std.proofs.lemmas.List.Elements.{Contains-append_cases}
 use Rattle.mark_word.specs.Words.{bare}
 use Rattle.elf_model.specs.declared.objects.Symbol.{Symbol}
 use Rattle.elf_model.specs.Fields.{same_name}
@@ -14,7 +14,11 @@ use Rattle.elf_model.specs.Canonical.{round_up}
 use Rattle.thumb_table.specs.declared.placements.Placement.{Placement}
 use Rattle.thumb_table.specs.declared.parts.NamedEntry.{NamedEntry}
 use Rattle.thumb_table.specs.Parts.{Memory, Image}
-use Rattle.thumb_table.specs.Images.{Placed, Defined, placed, chosen, is_data, code_parts, data_parts, all_placed, as_part, bytes_from, code_bytes_of, data_bytes_of, numbered, all_symbols, globals, resolved, is_standing, is_function, address_of, even, entries_of, IsPlacement, IsStop, CanLink, IsImage}
+use Rattle.thumb_table.specs.Layouts.{Placed, placed, chosen, code_parts, data_parts, all_placed, as_part, bytes_from, code_bytes_of, data_bytes_of, IsPlacement}
+use Rattle.thumb_table.specs.Names.{Defined, numbered, all_symbols, globals, resolved, is_standing, is_function, address_of, entries_of}
+use Rattle.thumb_table.specs.Images.{is_data, even, IsStop, CanLink, IsImage}
+use Rattle.thumb_table.specs.LinkFaults.{StandsBefore, IsSecond}
+use Rattle.thumb_table.proofs.PlainImages.{one_plain, plain_links, image_plain}
 use Rattle.flat_link.specs.declared.places.Sort.TheVariants.{Code, Data}
 use Rattle.flat_link.specs.Placing.{parts_from, end_of, code_starts, can_fit}
 use Rattle.flat_link.specs.Symbols.{function_place, is_global, is_named, is_second, is_meant, entry_at, entry_list, AreOnce}
@@ -141,9 +145,21 @@ later_second symbols d e x y same l =
     (named_has is_global e.symbol.name (take e.index symbols) d.index d.symbol (take_get symbols e.index d.index d.symbol l x.there) x.sorted
     (subst (λ (n : List ℕ). same_name e.symbol.name n ≡ true) (sym same) (same_name_self e.symbol.name)))
 
-pub not_twice : (symbols : List Symbol) (d e : Defined) → AreOnce symbols → IsGlobalAt symbols d → IsGlobalAt symbols e → d.symbol.name ≡ e.symbol.name → d.index < e.index → ⊥
-not_twice symbols d e once x y same l =
-    both_ways (is_second symbols e.index e.symbol) (once e.index e.symbol (slice_get_within symbols e.index e.symbol y.there) y.there) (later_second symbols d e x y same l)
+-- a second definition of the object's, by its number
+pub second_is : (o : ObjectParts) (d : Defined) → IsSecond (o ∷ []) d → IsGlobalAt o.symbols d × (is_second o.symbols d.index d.symbol ≡ true)
+second_is o d h =
+    let a = global_at o h.earlier h.was in
+    let b = global_at o d h.is in
+    (b, later_second o.symbols h.earlier d a b h.named (lower a.object b.object h.before))
+  where
+    lower : h.earlier.object ≡ 0 → d.object ≡ 0 → StandsBefore h.earlier d → h.earlier.index < d.index
+    lower a b (inl l) = absurd (omega arith)
+    lower a b (inr p) = p.1
+
+pub no_second : (o : ObjectParts) → AreOnce o.symbols → (d : Defined) → IsSecond (o ∷ []) d → ⊥
+no_second o once d h =
+    let s = second_is o d h in
+    both_ways (is_second o.symbols d.index d.symbol) (once d.index d.symbol (slice_get_within o.symbols d.index d.symbol s.0.there) s.0.there) s.1
 
 can_link : (o : ObjectParts) (at : Placement) → list_all is_section o.sections ≡ true → o.relocs ≡ [] → AreOnce o.symbols → can_fit o.sections at ≡ true → CanLink (o ∷ []) at
 can_link o at ok plain once f =
@@ -151,21 +167,11 @@ can_link o at ok plain once f =
     let code = code_ends o at ok in
     let memory = data_ends o at ok in
     let long : length (data_bytes_of (o ∷ []) at) ≡ end_of Data (at.base + at.room) o.sections - (at.base + at.room) = omega arith in
-    record {
-      no_relocations = All-cons (λ o. o.relocs ≡ []) o [] plain (All-nil (λ o. o.relocs ≡ []));
-      once = λ d e x y same.
-          let a = global_at o d x in
-          let b = global_at o e y in (
-            a.object ∙ sym b.object,
-            elim (cases_order d.index e.index) [
-              | inl is ↦ is
-              | inr r ↦ elim r [ inl l ↦ absurd (not_twice o.symbols d e once a b same l) | inr l ↦ absurd (not_twice o.symbols e d once b a (sym same) l) ]
-            ],
-          );
-      code_fits = omega (arith, fit.code);
-      data_fits = subst (λ (n : ℕ). round_up n 8 + at.stack ≤ 16777216) (sym long) fit.memory;
-      end_fits = omega (arith, fit.last);
-    }
+    plain_links (o ∷ []) at (one_plain o plain) (no_second o once) (record {
+      code = omega (arith, fit.code);
+      memory = subst (λ (n : ℕ). round_up n 8 + at.stack ≤ 16777216) (sym long) fit.memory;
+      last = omega (arith, fit.last);
+    })
 
 abbrev memory_with : ℕ → List ℕ → Memory
 memory_with base bytes = record { base = base; cells = map bare bytes }
@@ -174,7 +180,7 @@ pub image_is : (o : ObjectParts) (at : Placement) (image : Image) → list_all i
     → IsImage (o ∷ []) at image
 image_is o at image ok plain place h =
     let memory = at.base + at.room in
-    record {
+    image_plain (o ∷ []) at (one_plain o plain) image (record {
       placement = place;
       can = can_link o at ok plain h.once h.fits;
       parts = h.made.parts ∙ ap (map as_part) (sym (parts_are o at));
@@ -190,4 +196,4 @@ image_is o at image ok plain place h =
       memory = h.made.memory ∙ ap (λ (l : List Placed). memory_with memory (bytes_from memory l)) (sym (data_is o at));
       room = h.made.room;
       entries = h.made.entries ∙ entries_are at.base memory o ok h.once ∙ ap (entries_of (o ∷ [])) (sym (parts_are o at));
-    }
+    })

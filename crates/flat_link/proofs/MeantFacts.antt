@@ -9,7 +9,7 @@ use Rattle.std.proofs.lemmas.List.Folds.{find-append}
 use Rattle.elf_model.specs.declared.objects.Symbol.{Symbol}
 use Rattle.elf_model.specs.Fields.{same_name}
 use Rattle.elf_model.specs.Objects.{ObjectParts}
-use Rattle.thumb_table.specs.Images.{Defined, numbered, resolved, is_standing}
+use Rattle.thumb_table.specs.Names.{Defined, numbered, resolved, is_standing}
 use Rattle.flat_link.specs.Symbols.{is_global, is_weak, is_named, is_second, is_meant}
 use Rattle.flat_link.proofs.NameFacts.{same_name_flip, same_name_self}
 use Rattle.flat_link.proofs.SymbolFacts.{defined_at}

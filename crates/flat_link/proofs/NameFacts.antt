@@ -8,7 +8,8 @@ use Rattle.std.proofs.lemmas.Option.{same_Some}
 use Rattle.std.proofs.lemmas.List.{append-nil}
 use Rattle.elf_model.specs.declared.objects.Symbol.{Symbol}
 use Rattle.thumb_table.specs.declared.parts.NamedEntry.{NamedEntry}
-use Rattle.flat_link.specs.Symbols.{is_named, is_second, is_meant, home_section, earlier, IsLowest, IsFirstSecond, entry_at, entry_list, function_place}
+use Rattle.thumb_table.specs.LinkFaults.{home_section}
+use Rattle.flat_link.specs.Symbols.{is_named, is_second, is_meant, earlier, IsLowest, IsFirstSecond, entry_at, entry_list, function_place}
 use Rattle.flat_link.proofs.SectionFacts.{next}
 use Rattle.std.proofs.lemmas.Bool.{and_parts, and_from, cases_eq, eq-eqb, ne_eqb, eqb-true, both_ways, cases_lt, lt-ltb, le-ltb}
 use Rattle.elf_model.specs.Fields.{same_name}

@@ -12,7 +12,8 @@ use Rattle.elf_model.specs.declared.objects.Home.{Home}
 use Rattle.elf_model.specs.declared.objects.Home.TheVariants as home
 use Rattle.elf_model.specs.Objects.{is_section, is_code, is_alloc}
 use Rattle.elf_model.specs.Canonical.{round_up}
-use Rattle.thumb_table.specs.Images.{Placed, part_of, start_of, home_start, is_in_code}
+use Rattle.thumb_table.specs.Layouts.{Placed, part_of, start_of, home_start}
+use Rattle.thumb_table.specs.Names.{is_in_code}
 use Rattle.flat_link.specs.declared.places.Sort.{Sort}
 use Rattle.flat_link.specs.declared.places.Sort.TheVariants.{Code, Data}
 use Rattle.flat_link.specs.Placing.{is_of, alignment_of, parts_from, end_after, end_of, code_starts}

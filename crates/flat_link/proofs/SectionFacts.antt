@@ -11,7 +11,7 @@ use Rattle.elf_model.specs.declared.objects.Section.{Section}
 use Rattle.elf_model.specs.Constants.{nobits}
 use Rattle.elf_model.specs.Objects.{is_section, is_alignment, is_name, is_dropped_name, is_kept_kind, is_writable, is_exec, has_bytes}
 use Rattle.elf_model.specs.Canonical.{round_up}
-use Rattle.thumb_table.specs.Images.{part_bytes}
+use Rattle.thumb_table.specs.Layouts.{part_bytes}
 use Rattle.flat_link.specs.declared.places.Sort.{Sort}
 use Rattle.flat_link.specs.declared.places.Sort.TheVariants.{Code, Data}
 use Rattle.flat_link.specs.Placing.{alignment_of}

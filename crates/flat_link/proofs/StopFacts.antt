@@ -11,16 +11,22 @@ use Rattle.elf_model.specs.declared.objects.Home.{Home}
 use Rattle.elf_model.specs.declared.objects.Home.TheVariants as home
 use Rattle.elf_model.specs.Constants.{func}
 use Rattle.elf_model.specs.Objects.{ObjectParts, is_section, is_code}
-use Rattle.thumb_table.specs.Images.{Placed, Defined, numbered, all_symbols, is_function, is_in_code, address_of, even, IsDataStart, IsStop}
-use Rattle.elf_model.specs.Ranges.{is_mapping, is_mapping_of, stands_at}
+use Rattle.thumb_table.specs.Layouts.{Placed}
+use Rattle.thumb_table.specs.Names.{Defined, numbered, all_symbols, is_function, is_in_code, address_of}
+use Rattle.thumb_table.specs.Images.{even, IsDataStart, IsStop}
+use Rattle.elf_model.specs.declared.ranges.RangeKind.{RangeKind}
+use Rattle.elf_model.specs.declared.ranges.RangeKind.TheVariants as kind
+use Rattle.elf_model.specs.Ranges.{stands_at}
+use Rattle.code_ranges.specs.Spans.{kind_at}
+use Rattle.code_ranges.proofs.KindFacts.{beginning, kind_here}
 use Rattle.thumb_table.specs.Images.IsStop.{at_function, at_data, at_end}
 use Rattle.flat_link.specs.declared.places.Sort.TheVariants.{Code, Data}
 use Rattle.flat_link.specs.Placing.{parts_from, code_starts}
-use Rattle.flat_link.specs.Symbols.{code_start, function_place, function_stops, last_mapping, is_number, is_last, data_place, data_stops, end_stops}
+use Rattle.flat_link.specs.Symbols.{code_start, function_place, function_stops, says_data, begins_data, data_place, data_stops, end_stops}
 use Rattle.flat_link.specs.Made.{all_stops}
 use Rattle.elf_model.proofs.Elements.{contains_none, contains_map, map_contains}
 use Rattle.flat_link.proofs.PartFacts.{both, part_is, start_is, starts_at, code_part, in_code, not_in_code, ends_are}
-use Rattle.flat_link.proofs.SymbolFacts.{defined_at, numbered_is, numbered_has, functions_are, data_are, stop_of, has_stop, sound, covers}
+use Rattle.flat_link.proofs.SymbolFacts.{defined_at, numbered_is, numbered_has, functions_are, data_are, stop_of, has_stop}
 
 module _ (base memory : ℕ) (sections : List Section) (ok : list_all is_section sections ≡ true) where
   pub placed_function : (s : Symbol) (k a : ℕ) → function_place (code_starts base sections) s ≡ Some a
@@ -52,79 +58,39 @@ module _ (base memory : ℕ) (sections : List Section) (ok : list_all is_section
       go true y h = place (code_start (code_starts base sections) s.home) refl h
       go false y h = and_left (s.kind == func) (is_in_code (both base memory sections) 0 s.home) y
 
--- the last mapping symbol at a place says so
-last_is : (symbols : List Symbol) (k j x : ℕ) → is_number k (last_mapping 0 symbols j x) ≡ true → last_mapping 0 symbols j x ≡ Some k
-last_is symbols k j x h = go (last_mapping 0 symbols j x) h
-  where
-    go : (o : Option ℕ) → is_number k o ≡ true → o ≡ Some k
-    go None h = absurd (cc)
-    go (Some i) h = ap (λ (n : ℕ). Some n) (eqb-true i k h)
-
-data_start : (o : ObjectParts) (k j x : ℕ) (s : Symbol) → slice_get o.symbols k ≡ Some s → is_mapping_of (codes "$d") s ≡ true → stands_at j x s.home s.value ≡ true
-    → last_mapping 0 o.symbols j x ≡ Some k → IsDataStart o j x
-data_start o k j x s e y stands h = record {
-  index = k;
-  symbol = s;
-  is_there = e;
-  is_kind = y;
-  stands = stands;
-  last = λ i other l at m.
-      elim (cases_Bool (stands_at j x other.home other.value)) [
-        | inl z ↦
-            let r = covers 0 o.symbols j x i other at (and_from (is_mapping other) (stands_at j x other.home other.value) m z) in
-            let same : r.0 ≡ k = same_Some r.0 k (sym r.1 ∙ h) in
-            let low = r.2 in
-            absurd (omega arith)
-        | inr n ↦ n
-      ];
-}
-
-data_last : (o : ObjectParts) (j x : ℕ) (d : IsDataStart o j x) → last_mapping 0 o.symbols j x ≡ Some d.index
-data_last o j x d =
-    let mapping : is_mapping d.symbol ≡ true = letters d.symbol d.is_kind in
-    let r = covers 0 o.symbols j x d.index d.symbol d.is_there (and_from (is_mapping d.symbol) (stands_at j x d.symbol.home d.symbol.value) mapping d.stands) in
-    let q = sound 0 o.symbols j x r.0 r.1 in
-    let p = and_parts (is_mapping q.symbol) (stands_at j x q.symbol.home q.symbol.value) q.maps in
-    let same : r.0 - 0 ≡ r.0 = omega arith in
-    let low = r.2 in
-    elim (cases_lt d.index r.0) [
-      | inl l ↦ absurd (both_ways (stands_at j x q.symbol.home q.symbol.value) (d.last r.0 q.symbol l (ap (slice_get o.symbols) (sym same) ∙ q.there) p.0) p.1)
-      | inr l ↦ let e : r.0 ≡ d.index = omega arith in r.1 ∙ ap (λ (n : ℕ). Some n) e
-    ]
-  where
-    letters : (s : Symbol) → is_mapping_of (codes "$d") s ≡ true → is_mapping s ≡ true
-    letters s h = or_right (is_mapping_of (codes "$t") s || is_mapping_of (codes "$a") s) (is_mapping_of (codes "$d") s) h
+-- what says that data begins
+data_kind : (k : Option RangeKind) → says_data k ≡ true → k ≡ Some kind.Data
+data_kind None h = absurd (cc)
+data_kind (Some kind.Code) h = absurd (cc)
+data_kind (Some kind.Arm) h = absurd (cc)
+data_kind (Some kind.Data) h = refl
 
 in_table : (o : Option (Option ℕ)) (a : ℕ) → unwrap_or o None ≡ Some a → o ≡ Some (Some a)
 in_table None a e = absurd (none-some a e)
 in_table (Some x) a e = ap (λ (y : Option ℕ). Some y) e
 
 module _ (base memory : ℕ) (o : ObjectParts) (ok : list_all is_section o.sections ≡ true) where
-  data_stop : (k : ℕ) (s : Symbol) (b : ℕ) → slice_get o.symbols k ≡ Some s → is_mapping_of (codes "$d") s ≡ true → (h : Home) → s.home ≡ h → is_last o.symbols k h s.value ≡ true
-      → code_start (code_starts base o.sections) h ≡ Some b → IsStop (o ∷ []) (both base memory o.sections) (b + s.value)
-  data_stop k s b e y home.Undefined at l c = absurd (none-some b c)
-  data_stop k s b e y home.Absolute at l c = absurd (none-some b c)
-  data_stop k s b e y (home.Section j) at l c =
+  data_stop : (s : Symbol) (b : ℕ) (h : Home) → begins_data o.symbols h s.value ≡ true → code_start (code_starts base o.sections) h ≡ Some b → IsStop (o ∷ []) (both base memory o.sections) (b + s.value)
+  data_stop s b home.Undefined y c = absurd (none-some b c)
+  data_stop s b home.Absolute y c = absurd (none-some b c)
+  data_stop s b (home.Section j) y c =
       let r = starts_at base 0 0 o.sections j b ok (in_table (slice_get (code_starts base o.sections) j) b c) in
       let code = (part_is Code base 0 0 o.sections r.part r.there).sorted in
       let number : j ≡ r.part.index = omega (arith, r.number) in
-      let stands : stands_at j s.value s.home s.value ≡ true = ap (λ (h : Home). stands_at j s.value h s.value) at ∙ and_from (j == j) (s.value == s.value) (eq-eqb j j refl) (eq-eqb s.value s.value refl) in
-      let start = data_start o k j s.value s e y stands (last_is o.symbols k j s.value l) in
+      let start = beginning o kind.Data j s.value (data_kind (kind_at o.symbols j s.value) y) in
       subst (λ (n : ℕ). IsStop (o ∷ []) (both base memory o.sections) (n + s.value)) r.at
       (at_data r.part o s.value (Contains-append_left (parts_from Code base 0 0 o.sections) (parts_from Data memory 0 0 o.sections) r.part r.there) code
       (ap (slice_get (o ∷ [])) r.object) (subst (λ (n : ℕ). IsDataStart o n s.value) number start))
 
-  data_to : (k : ℕ) (s : Symbol) (a : ℕ) → slice_get o.symbols k ≡ Some s → data_place (code_starts base o.sections) o.symbols k s ≡ Some a → IsStop (o ∷ []) (both base memory o.sections) a
-  data_to k s a e h = go (is_mapping_of (codes "$d") s && is_last o.symbols k s.home s.value) refl h
+  data_to : (s : Symbol) (a : ℕ) → data_place (code_starts base o.sections) o.symbols s ≡ Some a → IsStop (o ∷ []) (both base memory o.sections) a
+  data_to s a h = go (begins_data o.symbols s.home s.value) refl h
     where
-      place : (is_mapping_of (codes "$d") s && is_last o.symbols k s.home s.value) ≡ true → (c : Option ℕ) → code_start (code_starts base o.sections) s.home ≡ c
+      place : begins_data o.symbols s.home s.value ≡ true → (c : Option ℕ) → code_start (code_starts base o.sections) s.home ≡ c
           → option_map (λ start. start + s.value) c ≡ Some a → IsStop (o ∷ []) (both base memory o.sections) a
       place y None c h = absurd (none-some a h)
-      place y (Some b) c h =
-          let p = and_parts (is_mapping_of (codes "$d") s) (is_last o.symbols k s.home s.value) y in
-          subst (λ (n : ℕ). IsStop (o ∷ []) (both base memory o.sections) n) (same_Some _ _ h) (data_stop k s b e p.0 s.home refl p.1 c)
+      place y (Some b) c h = subst (λ (n : ℕ). IsStop (o ∷ []) (both base memory o.sections) n) (same_Some _ _ h) (data_stop s b s.home y c)
 
-      go : (b : Bool) → (is_mapping_of (codes "$d") s && is_last o.symbols k s.home s.value) ≡ b
+      go : (b : Bool) → begins_data o.symbols s.home s.value ≡ b
           → cond b (option_map (λ start. start + s.value) (code_start (code_starts base o.sections) s.home)) None ≡ Some a → IsStop (o ∷ []) (both base memory o.sections) a
       go true y h = place y (code_start (code_starts base o.sections) s.home) refl h
       go false y h = absurd (none-some a h)
@@ -138,16 +104,15 @@ module _ (base memory : ℕ) (o : ObjectParts) (ok : list_all is_section o.secti
   pub to_stop : (a : ℕ) → Contains (all_stops o.sections o.symbols base) a → IsStop (o ∷ []) (both base memory o.sections) a
   to_stop a h =
       let starts = code_starts base o.sections in
-      elim (Contains-append_cases (function_stops starts o.symbols ++ data_stops starts o.symbols 0 o.symbols) (end_stops base o.sections) a h) [
+      elim (Contains-append_cases (function_stops starts o.symbols ++ data_stops starts o.symbols o.symbols) (end_stops base o.sections) a h) [
         | inl x ↦
-            elim (Contains-append_cases (function_stops starts o.symbols) (data_stops starts o.symbols 0 o.symbols) a x) [
+            elim (Contains-append_cases (function_stops starts o.symbols) (data_stops starts o.symbols o.symbols) a x) [
               | inl f ↦
                   let r = stop_of (λ k s. function_place starts s) 0 o.symbols a (subst (λ (l : List ℕ). Contains l a) (functions_are starts 0 o.symbols) f) in
                   function_to r.index r.symbol a r.there r.stop
               | inr d ↦
-                  let r = stop_of (data_place starts o.symbols) 0 o.symbols a (subst (λ (l : List ℕ). Contains l a) (data_are starts o.symbols 0 o.symbols) d) in
-                  let same : 0 + r.index ≡ r.index = omega arith in
-                  data_to r.index r.symbol a r.there (ap (λ (n : ℕ). data_place starts o.symbols n r.symbol) (sym same) ∙ r.stop)
+                  let r = stop_of (λ k s. data_place starts o.symbols s) 0 o.symbols a (subst (λ (l : List ℕ). Contains l a) (data_are starts o.symbols 0 o.symbols) d) in
+                  data_to r.symbol a r.stop
             ]
         | inr e ↦
             let r = contains_map (λ p. p.start + p.section.size) (parts_from Code base 0 0 o.sections) a (subst (λ (l : List ℕ). Contains l a) (ends_are base 0 0 o.sections) e) in
@@ -183,47 +148,44 @@ module _ (base memory : ℕ) (o : ObjectParts) (ok : list_all is_section o.secti
           (has_stop (λ k s. function_place (code_starts base o.sections) s) 0 o.symbols (d.index - 0) d.symbol (even (address_of (both base memory o.sections) d)) at (e ∙ ap (λ (n : ℕ). Some n) (sym z)))
 
   data_from : (p : Placed) (x : ℕ) → Contains (both base memory o.sections) p → is_code p.section ≡ true → IsDataStart o p.index x
-      → Contains (data_stops (code_starts base o.sections) o.symbols 0 o.symbols) (p.start + x)
+      → Contains (data_stops (code_starts base o.sections) o.symbols o.symbols) (p.start + x)
   data_from p x c y d =
       let s = start_is base 0 0 o.sections p (code_part base memory o.sections p c y) in
       let i : p.index - 0 ≡ p.index = omega arith in
       let at : slice_get (code_starts base o.sections) p.index ≡ Some (Some p.start) = ap (slice_get (code_starts base o.sections)) (sym i) ∙ s.1 in
-      let k : 0 + d.index ≡ d.index = omega arith in
       subst (λ (l : List ℕ). Contains l (p.start + x)) (sym (data_are (code_starts base o.sections) o.symbols 0 o.symbols))
-      (has_stop (data_place (code_starts base o.sections) o.symbols) 0 o.symbols d.index d.symbol (p.start + x) d.is_there
-      (ap (λ (n : ℕ). data_place (code_starts base o.sections) o.symbols n d.symbol) k ∙ place at d.symbol.home refl d.stands (data_last o p.index x d)))
+      (has_stop (λ k s. data_place (code_starts base o.sections) o.symbols s) 0 o.symbols d.index d.symbol (p.start + x) d.is_there (place at d.symbol.home refl d.stands (kind_here o kind.Data p.index x d)))
     where
       place : slice_get (code_starts base o.sections) p.index ≡ Some (Some p.start) → (h : Home) → d.symbol.home ≡ h → stands_at p.index x h d.symbol.value ≡ true
-          → last_mapping 0 o.symbols p.index x ≡ Some d.index → data_place (code_starts base o.sections) o.symbols d.index d.symbol ≡ Some (p.start + x)
+          → kind_at o.symbols p.index x ≡ Some kind.Data → data_place (code_starts base o.sections) o.symbols d.symbol ≡ Some (p.start + x)
       place at home.Undefined e stands l = absurd (cc)
       place at home.Absolute e stands l = absurd (cc)
       place at (home.Section j) e stands l =
           let q = and_parts (j == p.index) (d.symbol.value == x) stands in
           let same_j : j ≡ p.index = eqb-true j p.index q.0 in
           let same_x : d.symbol.value ≡ x = eqb-true d.symbol.value x q.1 in
-          let last : is_last o.symbols d.index d.symbol.home d.symbol.value ≡ true =
-          ap (λ (h : Home). is_last o.symbols d.index h d.symbol.value) e ∙ ap (λ (n : ℕ). is_number d.index (last_mapping 0 o.symbols n d.symbol.value)) same_j
-          ∙ ap (λ (n : ℕ). is_number d.index (last_mapping 0 o.symbols p.index n)) same_x ∙ ap (is_number d.index) l ∙ eq-eqb d.index d.index refl in
+          let begins : begins_data o.symbols d.symbol.home d.symbol.value ≡ true =
+          ap (λ (h : Home). begins_data o.symbols h d.symbol.value) e ∙ ap (λ (n : ℕ). says_data (kind_at o.symbols n d.symbol.value)) same_j
+          ∙ ap (λ (n : ℕ). says_data (kind_at o.symbols p.index n)) same_x ∙ ap says_data l in
           let start : code_start (code_starts base o.sections) d.symbol.home ≡ Some p.start =
           ap (code_start (code_starts base o.sections)) e ∙ ap (λ (n : ℕ). unwrap_or (slice_get (code_starts base o.sections) n) None) same_j ∙ ap (λ (t : Option (Option ℕ)). unwrap_or t None) at in
-          ap (λ (b : Bool). cond b (option_map (λ start. start + d.symbol.value) (code_start (code_starts base o.sections) d.symbol.home)) None)
-          (and_from (is_mapping_of (codes "$d") d.symbol) (is_last o.symbols d.index d.symbol.home d.symbol.value) d.is_kind last)
+          ap (λ (b : Bool). cond b (option_map (λ start. start + d.symbol.value) (code_start (code_starts base o.sections) d.symbol.home)) None) begins
           ∙ ap (option_map (λ start. start + d.symbol.value)) start ∙ ap (λ (n : ℕ). Some (p.start + n)) same_x
 
   pub from_stop : (a : ℕ) → IsStop (o ∷ []) (both base memory o.sections) a → Contains (all_stops o.sections o.symbols base) a
   from_stop a (at_function d c y) =
       let starts = code_starts base o.sections in
-      Contains-append_left (function_stops starts o.symbols ++ data_stops starts o.symbols 0 o.symbols) (end_stops base o.sections) (even (address_of (both base memory o.sections) d))
-      (Contains-append_left (function_stops starts o.symbols) (data_stops starts o.symbols 0 o.symbols) (even (address_of (both base memory o.sections) d)) (function_from d c y))
+      Contains-append_left (function_stops starts o.symbols ++ data_stops starts o.symbols o.symbols) (end_stops base o.sections) (even (address_of (both base memory o.sections) d))
+      (Contains-append_left (function_stops starts o.symbols) (data_stops starts o.symbols o.symbols) (even (address_of (both base memory o.sections) d)) (function_from d c y))
   from_stop a (at_data p q x c y e d) =
       let starts = code_starts base o.sections in
       let zero_is = (part_is Code base 0 0 o.sections p (code_part base memory o.sections p c y)).object in
       let same : q ≡ o = same_Some q o (sym e ∙ ap (slice_get (o ∷ [])) zero_is) in
-      Contains-append_left (function_stops starts o.symbols ++ data_stops starts o.symbols 0 o.symbols) (end_stops base o.sections) (p.start + x)
-      (Contains-append_right (function_stops starts o.symbols) (data_stops starts o.symbols 0 o.symbols) (p.start + x)
+      Contains-append_left (function_stops starts o.symbols ++ data_stops starts o.symbols o.symbols) (end_stops base o.sections) (p.start + x)
+      (Contains-append_right (function_stops starts o.symbols) (data_stops starts o.symbols o.symbols) (p.start + x)
       (data_from p x c y (subst (λ (z : ObjectParts). IsDataStart z p.index x) same d)))
   from_stop a (at_end p c y) =
       let starts = code_starts base o.sections in
-      Contains-append_right (function_stops starts o.symbols ++ data_stops starts o.symbols 0 o.symbols) (end_stops base o.sections) (p.start + p.section.size)
+      Contains-append_right (function_stops starts o.symbols ++ data_stops starts o.symbols o.symbols) (end_stops base o.sections) (p.start + p.section.size)
       (subst (λ (l : List ℕ). Contains l (p.start + p.section.size)) (sym (ends_are base 0 0 o.sections))
       (map_contains (λ p. p.start + p.section.size) (parts_from Code base 0 0 o.sections) p (code_part base memory o.sections p c y)))

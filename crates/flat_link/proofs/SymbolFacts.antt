@@ -1,12 +1,11 @@
--- Symbols by their numbers, and the last mapping symbol at a place.
-use Rattle.std.proofs.Common.{◌≡◌, ◌≤◌, ℕ, zero, suc, ◌+◌, ◌-◌, Bool, true, false, cond, List, [], ◌∷◌, ◌++◌, refl, sym, ap, ◌∙◌, subst, inl, inr, arith, Option, Some, None}
-use Rattle.std.specs.Prelude.{Contains, slice_get, ◌&&◌}
-use Rattle.std.specs.Option.{option_or, option_to_list}
+-- Symbols by their numbers, and the stops that they give.
+use Rattle.std.proofs.Common.{◌≡◌, ◌≤◌, ℕ, zero, suc, ◌+◌, ◌-◌, List, [], ◌∷◌, ◌++◌, refl, sym, ap, ◌∙◌, subst, inl, inr, arith, Option, Some, None}
+use Rattle.std.specs.Prelude.{Contains, slice_get}
+use Rattle.std.specs.Option.{option_to_list}
 use Rattle.std.proofs.lemmas.Option.{none-some, same_Some}
 use Rattle.elf_model.specs.declared.objects.Symbol.{Symbol}
-use Rattle.thumb_table.specs.Images.{Defined, numbered}
-use Rattle.elf_model.specs.Ranges.{is_mapping, stands_at}
-use Rattle.flat_link.specs.Symbols.{function_place, function_stops, data_place, data_stops, last_mapping}
+use Rattle.thumb_table.specs.Names.{Defined, numbered}
+use Rattle.flat_link.specs.Symbols.{function_place, function_stops, data_place, data_stops}
 use Rattle.elf_model.proofs.Elements.{contains_cases, contains_here, contains_later, contains_none}
 
 abbrev pub defined_at : ℕ → ℕ → Symbol → Defined
@@ -54,9 +53,9 @@ pub functions_are : (starts : List (Option ℕ)) (k : ℕ) (xs : List Symbol) �
 functions_are starts k [] = refl
 functions_are starts k (s ∷ rest) = ap (λ (t : List ℕ). option_to_list (function_place starts s) ++ t) (functions_are starts (k + 1) rest)
 
-pub data_are : (starts : List (Option ℕ)) (symbols : List Symbol) (k : ℕ) (xs : List Symbol) → data_stops starts symbols k xs ≡ stops_by (data_place starts symbols) k xs
+pub data_are : (starts : List (Option ℕ)) (symbols : List Symbol) (k : ℕ) (xs : List Symbol) → data_stops starts symbols xs ≡ stops_by (λ k s. data_place starts symbols s) k xs
 data_are starts symbols k [] = refl
-data_are starts symbols k (s ∷ rest) = ap (λ (t : List ℕ). option_to_list (data_place starts symbols k s) ++ t) (data_are starts symbols (k + 1) rest)
+data_are starts symbols k (s ∷ rest) = ap (λ (t : List ℕ). option_to_list (data_place starts symbols s) ++ t) (data_are starts symbols (k + 1) rest)
 
 pub record IsStopBy (f : ℕ → Symbol → Option ℕ) (k : ℕ) (xs : List Symbol) (a : ℕ) : Type 0 where
   pub index : ℕ
@@ -96,50 +95,3 @@ has_stop f k (t ∷ rest) (suc i) s a e h =
     go : (o : Option ℕ) → Contains (stops_by f (k + 1) rest) a → Contains (option_to_list o ++ stops_by f (k + 1) rest) a
     go None h = h
     go (Some b) h = contains_later b (stops_by f (k + 1) rest) a h
-
--- the last mapping symbol at a place
-abbrev pub maps_at : ℕ → ℕ → Symbol → Bool
-maps_at j x s = is_mapping s && stands_at j x s.home s.value
-
-pub record IsMappingAt (k : ℕ) (xs : List Symbol) (j x m : ℕ) : Type 0 where
-  pub symbol : Symbol
-  pub above : k ≤ m
-  pub there : slice_get xs (m - k) ≡ Some symbol
-  pub maps : maps_at j x symbol ≡ true
-
-pub sound : (k : ℕ) (xs : List Symbol) (j x m : ℕ) → last_mapping k xs j x ≡ Some m → IsMappingAt k xs j x m
-sound k [] j x m h = absurd (none-some m h)
-sound k (s ∷ rest) j x m h = go (last_mapping (k + 1) rest j x) refl h (sound (k + 1) rest j x m)
-  where
-    here : (b : Bool) → maps_at j x s ≡ b → cond b (Some k) None ≡ Some m → IsMappingAt k (s ∷ rest) j x m
-    here true e h =
-        let same : k ≡ m = same_Some k m h in
-        let z : m - k ≡ 0 = omega arith in
-        record { symbol = s; above = omega arith; there = ap (slice_get (s ∷ rest)) z; maps = e }
-    here false e h = absurd (none-some m h)
-
-    go : (o : Option ℕ) → last_mapping (k + 1) rest j x ≡ o → option_or o (cond (maps_at j x s) (Some k) None) ≡ Some m
-        → (last_mapping (k + 1) rest j x ≡ Some m → IsMappingAt (k + 1) rest j x m) → IsMappingAt k (s ∷ rest) j x m
-    go None e h more = here (maps_at j x s) refl h
-    go (Some i) e h more =
-        let r = more (e ∙ h) in
-        let a = r.above in
-        let n : m - k ≡ suc (m - (k + 1)) = omega arith in
-        record { symbol = r.symbol; above = omega arith; there = ap (slice_get (s ∷ rest)) n ∙ r.there; maps = r.maps }
-
-pub covers : (k : ℕ) (xs : List Symbol) (j x i : ℕ) (s : Symbol) → slice_get xs i ≡ Some s → maps_at j x s ≡ true → (m : ℕ) × (last_mapping k xs j x ≡ Some m) × (k + i ≤ m)
-covers k [] j x i s e h = absurd (none-some s e)
-covers k (t ∷ rest) j x zero s e h = go (last_mapping (k + 1) rest j x) refl
-  where
-    go : (o : Option ℕ) → last_mapping (k + 1) rest j x ≡ o → (m : ℕ) × (last_mapping k (t ∷ rest) j x ≡ Some m) × (k + 0 ≤ m)
-    go None f =
-        let y : maps_at j x t ≡ true = ap (maps_at j x) (same_Some t s e) ∙ h in
-        (k, ap (λ (o : Option ℕ). option_or o (cond (maps_at j x t) (Some k) None)) f ∙ ap (λ (b : Bool). cond b (Some k) None) y, omega arith)
-    go (Some m) f =
-        let r = sound (k + 1) rest j x m f in
-        let a = r.above in
-        (m, ap (λ (o : Option ℕ). option_or o (cond (maps_at j x t) (Some k) None)) f, omega arith)
-covers k (t ∷ rest) j x (suc i) s e h =
-    let r = covers (k + 1) rest j x i s e h in
-    let l = r.2 in
-    (r.0, ap (λ (o : Option ℕ). option_or o (cond (maps_at j x t) (Some k) None)) r.1, omega arith)

@@ -7,7 +7,7 @@ use Rattle.std.proofs.lemmas.Bool.{and_parts, cases_Bool}
 use Rattle.elf_model.specs.declared.objects.Section.{Section}
 use Rattle.elf_model.specs.Objects.{is_section}
 use Rattle.elf_model.specs.Canonical.{round_up}
-use Rattle.thumb_table.specs.Images.{Placed, chosen, placed, as_part, part_bytes, bytes_from}
+use Rattle.thumb_table.specs.Layouts.{Placed, chosen, placed, as_part, part_bytes, bytes_from}
 use Rattle.flat_link.specs.declared.places.Sort.{Sort}
 use Rattle.flat_link.specs.Placing.{is_of, alignment_of, parts_from, end_after, end_of}
 use Rattle.flat_link.proofs.SectionFacts.{aligned_as, rounded, sized, each_rest, next}

@@ -6,7 +6,7 @@ use Rattle.elf_model.specs.declared.objects.Section.{Section}
 use Rattle.elf_model.specs.declared.objects.Symbol.{Symbol}
 use Rattle.thumb_table.specs.declared.placements.Placement.{Placement}
 use Rattle.thumb_table.specs.Parts.{CodeBytes, Image}
-use Rattle.thumb_table.specs.Images.{as_part, bytes_from}
+use Rattle.thumb_table.specs.Layouts.{as_part, bytes_from}
 use Rattle.flat_link.specs.declared.places.Sort.TheVariants.{Code, Data}
 use Rattle.flat_link.specs.Placing.{parts_from, code_starts, can_fit}
 use Rattle.flat_link.specs.Symbols.{function_stops, data_stops, end_stops, entry_list, AreOnce}
@@ -15,7 +15,7 @@ use Rattle.flat_link.specs.Symbols.{function_stops, data_stops, end_stops, entry
 abbrev pub all_stops : List Section → List Symbol → ℕ → List ℕ
 all_stops sections symbols base =
     let starts = code_starts base sections in
-    (function_stops starts symbols ++ data_stops starts symbols 0 symbols) ++ end_stops base sections
+    (function_stops starts symbols ++ data_stops starts symbols symbols) ++ end_stops base sections
 
 pub record IsMadeCode (sections : List Section) (symbols : List Symbol) (from : ℕ) (code : CodeBytes) : Type 0 where
   pub base : code.base ≡ from

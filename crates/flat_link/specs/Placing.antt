@@ -4,7 +4,8 @@ use Rattle.elf_model.specs.declared.objects.Section.{Section}
 use Rattle.elf_model.specs.Objects.{is_code}
 use Rattle.elf_model.specs.Canonical.{round_up}
 use Rattle.thumb_table.specs.declared.placements.Placement.{Placement}
-use Rattle.thumb_table.specs.Images.{Placed, is_data, chosen, placed}
+use Rattle.thumb_table.specs.Layouts.{Placed, chosen, placed}
+use Rattle.thumb_table.specs.Images.{is_data}
 use Rattle.flat_link.specs.declared.places.Sort.{Sort}
 use Rattle.flat_link.specs.declared.places.Sort.TheVariants.{Code, Data}
 

@@ -9,11 +9,15 @@ use Rattle.elf_model.specs.declared.objects.Home.TheVariants as home
 use Rattle.elf_model.specs.Constants.{global, weak, func}
 use Rattle.elf_model.specs.Fields.{same_name}
 use Rattle.elf_model.specs.Objects.{is_code}
-use Rattle.thumb_table.specs.Images.{is_defined, even}
-use Rattle.elf_model.specs.Ranges.{is_mapping_of, is_mapping, stands_at}
+use Rattle.thumb_table.specs.Names.{is_defined}
+use Rattle.thumb_table.specs.Images.{even}
+use Rattle.elf_model.specs.declared.ranges.RangeKind.{RangeKind}
+use Rattle.elf_model.specs.declared.ranges.RangeKind.TheVariants.{Code, Arm, Data}
+use Rattle.code_ranges.specs.Spans.{kind_at}
 use Rattle.thumb_table.specs.declared.parts.NamedEntry.{NamedEntry}
+use Rattle.thumb_table.specs.LinkFaults.{home_section}
 use Rattle.flat_link.specs.Placing.{end_after}
-use Rattle.flat_link.specs.declared.places.Sort.TheVariants.{Code}
+use Rattle.flat_link.specs.declared.places.Sort.TheVariants as sort
 
 -- where the code section starts that a symbol is defined in
 abbrev pub code_start : List (Option ℕ) → Home → Option ℕ
@@ -30,36 +34,31 @@ abbrev pub function_stops : List (Option ℕ) → List Symbol → List ℕ
 function_stops starts [] = []
 function_stops starts (s ∷ rest) = option_to_list (function_place starts s) ++ function_stops starts rest
 
--- the number of the last mapping symbol at a place, of symbols of which the first has number k
-abbrev pub last_mapping : ℕ → List Symbol → ℕ → ℕ → Option ℕ
-last_mapping k [] j x = None
-last_mapping k (s ∷ rest) j x =
-    option_or (last_mapping (k + 1) rest j x) (if is_mapping s && stands_at j x s.home s.value then Some k else None)
+-- whether data begins at a place, by the last mapping symbol there
+abbrev pub says_data : Option RangeKind → Bool
+says_data None = false
+says_data (Some Code) = false
+says_data (Some Arm) = false
+says_data (Some Data) = true
 
--- whether symbol number k is the last mapping symbol at its place
-abbrev pub is_number : ℕ → Option ℕ → Bool
-is_number k None = false
-is_number k (Some i) = i == k
+abbrev pub begins_data : List Symbol → Home → ℕ → Bool
+begins_data symbols home.Undefined x = false
+begins_data symbols home.Absolute x = false
+begins_data symbols (home.Section j) x = says_data (kind_at symbols j x)
 
-abbrev pub is_last : List Symbol → ℕ → Home → ℕ → Bool
-is_last symbols k home.Undefined x = false
-is_last symbols k home.Absolute x = false
-is_last symbols k (home.Section j) x = is_number k (last_mapping 0 symbols j x)
+-- the address of a symbol at whose place data begins in code
+abbrev pub data_place : List (Option ℕ) → List Symbol → Symbol → Option ℕ
+data_place starts symbols s =
+    if begins_data symbols s.home s.value then option_map (λ start. start + s.value) (code_start starts s.home) else None
 
--- where data starts in code, if symbol number k says so
-abbrev pub data_place : List (Option ℕ) → List Symbol → ℕ → Symbol → Option ℕ
-data_place starts symbols k s =
-    if is_mapping_of (codes "$d") s && is_last symbols k s.home s.value
-    then option_map (λ start. start + s.value) (code_start starts s.home) else None
-
-abbrev pub data_stops : List (Option ℕ) → List Symbol → ℕ → List Symbol → List ℕ
-data_stops starts symbols k [] = []
-data_stops starts symbols k (s ∷ rest) = option_to_list (data_place starts symbols k s) ++ data_stops starts symbols (k + 1) rest
+abbrev pub data_stops : List (Option ℕ) → List Symbol → List Symbol → List ℕ
+data_stops starts symbols [] = []
+data_stops starts symbols (s ∷ rest) = option_to_list (data_place starts symbols s) ++ data_stops starts symbols rest
 
 -- where code sections end
 abbrev pub end_stops : ℕ → List Section → List ℕ
 end_stops from [] = []
-end_stops from (s ∷ rest) = (if is_code s then end_after Code from s ∷ [] else []) ++ end_stops (end_after Code from s) rest
+end_stops from (s ∷ rest) = (if is_code s then end_after sort.Code from s ∷ [] else []) ++ end_stops (end_after sort.Code from s) rest
 
 -- definitions that other objects see
 abbrev pub is_global : Symbol → Bool
@@ -98,12 +97,6 @@ AreOnce symbols = (k : ℕ) (s : Symbol) → k < length symbols → slice_get sy
 -- a symbol in code stands low enough
 abbrev pub IsLow : List (Option ℕ) → Symbol → Type 0
 IsLow starts s = ForSome (code_start starts s.home) (λ start. start + s.value ≤ 0x7FFFF001)
-
--- the section that a symbol is defined in, or 0
-abbrev pub home_section : Home → ℕ
-home_section home.Undefined = 0
-home_section home.Absolute = 0
-home_section (home.Section j) = j
 
 -- Of second definitions the one in the lowest section is named, and the first there.
 abbrev pub earlier : Option (ℕ × ℕ) → ℕ → ℕ → ℕ × ℕ

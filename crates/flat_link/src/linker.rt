@@ -5,11 +5,13 @@ ghost use Rattle.std.specs.List.{list_any, list_all};
 ghost use Rattle.mark_word.specs.Words.{bare};
 ghost use Rattle.elf_model.specs.Fields.{same_name};
 ghost use Rattle.elf_model.specs.Objects.{is_section, is_symbol, is_within};
-ghost use Rattle.thumb_table.specs.Images.{IsPlacement, IsImage, as_part, bytes_from};
+ghost use Rattle.thumb_table.specs.Layouts.{IsPlacement, as_part, bytes_from};
+ghost use Rattle.thumb_table.specs.Images.{IsImage};
 ghost use Rattle.flat_link.specs.Placing.{parts_from, code_starts, can_fit};
 ghost use Rattle.flat_link.specs.Symbols.{is_global, is_named};
 ghost use Rattle.flat_link.specs.Made.{IsMadeCode, IsMade, IsLinked};
-ghost use Rattle.flat_link.specs.Refusals.{IsOneDenial, IsLinkDenial};
+ghost use Rattle.flat_link.specs.Refusals.{IsOneDenial};
+ghost use Rattle.thumb_table.specs.LinkFaults.{IsLinkDenial};
 
 use crate::entries::entries_of;
 use crate::names::global_names;

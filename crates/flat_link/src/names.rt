@@ -3,9 +3,10 @@
 ghost use Rattle.std.specs.Prelude.{◌≡◌, ◌<◌, ◌≤◌, ◌&&◌, ◌||◌, not, false, ℕ, List, length, slice_get, IfOk, OnOk, IfErr};
 ghost use Rattle.std.specs.List.{list_any};
 ghost use Rattle.elf_model.specs.Fields.{same_name};
-ghost use Rattle.thumb_table.specs.Images.{is_defined};
+ghost use Rattle.thumb_table.specs.Names.{is_defined};
 ghost use Rattle.elf_model.specs.declared.objects.Symbol.{Symbol};
-ghost use Rattle.flat_link.specs.Symbols.{is_global, is_weak, is_named, home_section, earlier, AreOnce};
+ghost use Rattle.thumb_table.specs.LinkFaults.{home_section};
+ghost use Rattle.flat_link.specs.Symbols.{is_global, is_weak, is_named, earlier, AreOnce};
 ghost use Rattle.flat_link.specs.Refusals.{IsNameDenial};
 
 use elf_model::{Deny, Home, Refusal, Spot, Symbol};

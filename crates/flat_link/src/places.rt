@@ -6,7 +6,7 @@ ghost use Rattle.elf_model.specs.Objects.{is_section};
 ghost use Rattle.elf_model.specs.Canonical.{round_up};
 ghost use Rattle.flat_link.specs.Placing.{is_of, alignment_of, end_of, can_fit};
 
-use elf_model::{Section, is_code};
+use elf_model::{Section, is_code, is_data};
 use thumb_table::Placement;
 
 /// What is placed: code, or data.
@@ -22,8 +22,7 @@ pub(crate) fn round_up(at: u64, align: u32) -> u64
     requires low { at < 2 ^ 62 }
     ensures { result ≡ round_up at align }
 {
-    let align = align as u64;
-    (at + align - 1) / align * align
+    elf_model::round_up(at, align as u64)
 }
 
 /// Whether a section is of a sort.
@@ -32,7 +31,7 @@ pub(crate) fn is_of(sort: Sort, s: &Section) -> bool
 {
     match sort {
         Sort::Code => is_code(s),
-        Sort::Data => s.flags / 2 % 2 == 1 && !is_code(s),
+        Sort::Data => is_data(s),
     }
 }
 

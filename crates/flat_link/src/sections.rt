@@ -4,7 +4,7 @@ ghost use Rattle.std.specs.Prelude.{◌≡◌, ◌≤◌, ◌+◌, ◌++◌, [],
 ghost use Rattle.std.specs.List.{list_all};
 ghost use Rattle.elf_model.specs.Objects.{is_section};
 ghost use Rattle.mark_word.specs.Words.{bare};
-ghost use Rattle.thumb_table.specs.Images.{as_part, part_bytes, bytes_from};
+ghost use Rattle.thumb_table.specs.Layouts.{as_part, part_bytes, bytes_from};
 ghost use Rattle.flat_link.specs.Placing.{parts_from, end_of, code_starts};
 
 use crate::places::{Sort, is_of, start_of};

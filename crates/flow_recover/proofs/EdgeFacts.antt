@@ -8,10 +8,10 @@ use Rattle.thumb_instr.specs.declared.instructions.Instr.{Instr}
 use Rattle.flow_recover.specs.declared.nodes.Node.{Node}
 use Rattle.flow_recover.specs.declared.aims.Aim.{Aim}
 use Rattle.flow_recover.specs.declared.aims.Aim.TheVariants.{Near, Shared}
-use Rattle.reloc_places.specs.Starts.{HasStart, behind}
+use Rattle.reloc_places.specs.Starts.{HasStart}
 use Rattle.flow_recover.specs.Aims.{has_offset, IsAim}
-use Rattle.flow_recover.specs.Reach.{IsFound, GoesOn, node_behind, node_at, LeadsOn, LeadsAway}
-use Rattle.reloc_places.specs.Starts.{it_behind}
+use Rattle.flow_recover.specs.Reach.{IsFound, GoesOn, EndsAt, node_behind, node_at, LeadsOn, LeadsAway}
+use Rattle.flow_recover.specs.Reach.GoesOn.{by_falling, by_return}
 use Rattle.flow_recover.specs.Reach.LeadsOn.{on}
 use Rattle.flow_recover.specs.Reach.LeadsAway.{away}
 use Rattle.reloc_places.specs.Tables.{AreStarts}
@@ -34,12 +34,9 @@ module _ (o : ObjectParts) (end_at : ℕ → ℕ → Option ℕ) (starts : AreSt
             (λ h. absurd (none-some m (sym none ∙ h)), λ p. absurd (true≢false (sym (found.1 p.1) ∙ f)))
       ]
 
-  pub started_behind : (n : Node) (i : Instr) (x it : ℕ) (r : Option Node) → x ≡ behind o n.section n.offset → it ≡ it_behind i n.it
-      → r ≡ cond (is_some (end_at n.section x)) (Some (record { section = n.section; offset = x; it = it })) None → (m : Node) → (r ≡ Some m) ↔ IsStartBehind o n i m
-  started_behind n i x it r e f g m =
-      let same : record { section = n.section; offset = x; it = it } ≡ node_behind o n i =
-      ap (λ (k : ℕ). record { section = n.section; offset = k; it = it }) e ∙ ap (λ (k : ℕ). record { section = n.section; offset = behind o n.section n.offset; it = k }) f in
-      let is = started_is (record { section = n.section; offset = x; it = it }) r g m in (
+  pub started_behind : (n b : Node) (i : Instr) (r : Option Node) → b ≡ node_behind o n i → r ≡ cond (is_some (end_at b.section b.offset)) (Some b) None → (m : Node) → (r ≡ Some m) ↔ IsStartBehind o n i m
+  started_behind n b i r same g m =
+      let is = started_is b r g m in (
         λ h. let p = is.0 h in record { is = p.0 ∙ same; start = subst (λ (z : Node). HasStart o z.section z.offset) (sym p.0) p.1 },
         λ s. is.1 (s.is ∙ sym same, subst (λ (z : Node). HasStart o z.section z.offset) (s.is ∙ sym same) s.start),
       )
@@ -57,6 +54,11 @@ module _ (o : ObjectParts) (end_at : ℕ → ℕ → Option ℕ) (starts : AreSt
     pub aimed_none : (r : Option Node) → None ≡ offset_in a → r ≡ None → (m : Node) → (r ≡ Some m) ↔ IsStartAimed o n i m
     aimed_none r e f m = (λ h. absurd (none-some m (sym f ∙ h)), λ s. absurd (none-some s.offset (e ∙ led_to o n.section n.offset s.offset i a here s.aim)))
 
+-- control goes on, or ends, and not both
+pub ends_never : (o : ObjectParts) (n : Node) (i : Instr) → EndsAt o n i → GoesOn o n i → ⊥
+ends_never o n i e (by_falling h) = true≢false (sym h ∙ e.leaves)
+ends_never o n i e (by_return call alive) = alive (e.dead call)
+
 -- a node that has an instruction, and one that has none
 module _ (o : ObjectParts) (n : Node) (i : Instr) (here : IsFound o n (Ok i)) where
   same_instr : (k : Instr) → IsFound o n (Ok k) → i ≡ k
@@ -68,11 +70,11 @@ module _ (o : ObjectParts) (n : Node) (i : Instr) (here : IsFound o n (Ok i)) wh
       back : LeadsOn o n m → r ≡ Some m
       back (on k found g e start) = (is m).1 (record { is = e ∙ ap (node_behind o n) (sym (same_instr k found)); start = start })
 
-  pub next_stops : (GoesOn o n i → ⊥) → (m : Node) → (None ≡ Some m) ↔ LeadsOn o n m
+  pub next_stops : EndsAt o n i → (m : Node) → (None ≡ Some m) ↔ LeadsOn o n m
   next_stops stops m = (λ h. absurd (none-some m h), back)
     where
       back : LeadsOn o n m → None ≡ Some m
-      back (on k found g e start) = absurd (stops (subst (λ (z : Instr). GoesOn o n z) (sym (same_instr k found)) g))
+      back (on k found g e start) = absurd (ends_never o n i stops (subst (λ (z : Instr). GoesOn o n z) (sym (same_instr k found)) g))
 
   pub aimed_there : (r : Option Node) → has_offset i ≡ true → ((m : Node) → (r ≡ Some m) ↔ IsStartAimed o n i m) → (m : Node) → (r ≡ Some m) ↔ LeadsAway o n m
   aimed_there r has is m = (λ h. let s = (is m).0 h in away i s.offset here (record { has = has; aim = s.aim }) s.is s.start, back)

@@ -22,5 +22,6 @@ mod FlowFaultFacts
 mod EntryFacts
 pub mod EntryIndexes
 pub mod WholeFlowFacts
-pub mod FlowEdges
 pub mod OneFlow
+mod CodeStops
+pub mod FlowPoints

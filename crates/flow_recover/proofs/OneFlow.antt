@@ -1,18 +1,15 @@
 -- What a flow is leaves nothing open: an object has one flow at most, and is refused for one reason.
-use Rattle.std.proofs.Common.{◌≡◌, ◌↔◌, ◌<◌, ℕ, ◌-◌, true, false, List, [], ◌∷◌, length, map, get_or, refl, sym, ap, ◌∙◌, subst, inl, inr, arith, Option, Some}
+use Rattle.std.proofs.Common.{◌≡◌, ◌↔◌, ◌<◌, ℕ, false, List, length, map, refl, sym, ap, ◌∙◌, subst, inl, inr, arith, Option, Some}
 use Rattle.std.specs.Prelude.{slice_get, Contains}
-use Rattle.std.specs.List.{list_all}
 use Rattle.std.specs.List.Sorted.{IsStrictlySortedBy}
 use Rattle.std.specs.declared.cmp.Ordering.TheVariants.{Less}
-use Rattle.std.proofs.lemmas.Bool.{and_parts, true≢false}
-use Rattle.std.proofs.lemmas.Bool.Decides.{nat_tests}
+use Rattle.std.proofs.lemmas.Bool.{true≢false}
 use Rattle.std.proofs.lemmas.Option.{same_Some, slice_get_within}
 use Rattle.elf_model.specs.declared.refusals.Refusal.{Refusal}
 use Rattle.elf_model.specs.declared.refusals.Refusal.TheVariants as refusal
 use Rattle.elf_model.specs.declared.refusals.Spot.{Spot}
 use Rattle.elf_model.specs.declared.refusals.Deny.TheVariants.{Refused}
 use Rattle.elf_model.specs.Objects.{ObjectParts}
-use Rattle.elf_model.specs.Refusals.{number_of}
 use Rattle.thumb_instr.specs.declared.instructions.Instr.{Instr}
 use Rattle.thumb_instr.specs.declared.instructions.Instr.TheVariants as instr
 use Rattle.thumb_instr.specs.declared.refusals.BadInstr.{BadInstr}
@@ -25,9 +22,6 @@ use Rattle.flow_recover.specs.declared.flows.Exit.TheVariants as exit
 use Rattle.flow_recover.specs.declared.flows.Point.{Point}
 use Rattle.flow_recover.specs.declared.flows.PoolWord.{PoolWord}
 use Rattle.flow_recover.specs.declared.nodes.Node.{Node}
-use Rattle.code_ranges.specs.declared.ranges.Range.{Range}
-use Rattle.code_ranges.specs.CodeRanges.{RangeFault, IsRangeRefusal, comes_before, is_below, rise, AreRanges}
-use Rattle.code_ranges.specs.CodeRanges.RangeFault.{no_mapping, arm_range, arm_function}
 use Rattle.flow_recover.specs.Flows.{FlowParts}
 use Rattle.code_ranges.specs.Spans.{place_cmp}
 use Rattle.flow_recover.specs.Reach.{node_behind, node_at}
@@ -38,8 +32,9 @@ use Rattle.flow_recover.specs.WholeFlows.{IsExit as exits}
 use Rattle.flow_recover.specs.WholeFlows.{IsNext as nexts}
 use Rattle.flow_recover.specs.WholeFlows.{IsLoaded as loads}
 use Rattle.flow_recover.proofs.AimFacts.{aim_once}
-use Rattle.elf_model.proofs.Elements.{all_at, place_of, element_at}
-use Rattle.code_ranges.proofs.InOrder.{Rises, through, one_list, one_index, same_at_each, never_less, never_itself, rises_keys, rises_numbers}
+use Rattle.flow_recover.proofs.EdgeFacts.{ends_never}
+use Rattle.elf_model.proofs.Elements.{element_at}
+use Rattle.code_ranges.proofs.InOrder.{through, one_list, one_index, same_at_each, never_less, never_itself, rises_keys, rises_numbers}
 use Rattle.flow_recover.proofs.OneState.{one_instr}
 use Rattle.code_ranges.proofs.PlaceOrder.{place_total}
 use Rattle.code_ranges.proofs.OneRanges.{ranges_once, IsNamed, named_as, same_spot, range_refusal_once}
@@ -83,8 +78,8 @@ module _ (o : ObjectParts) (nodes : List Node) (order : IsStrictlySortedBy place
 
   next_once : (r s : Option ℕ) → IsNext o nodes n i r → IsNext o nodes n i s → r ≡ s
   next_once r s (nexts.on q g at is) (nexts.on p h at2 are) = is ∙ ap (λ (k : ℕ). Some k) (node_once q p (node_behind o n i) (node_behind o n i) at at2 refl) ∙ sym are
-  next_once r s (nexts.on q g at is) (nexts.none h are) = absurd (h g)
-  next_once r s (nexts.none g is) (nexts.on q h at are) = absurd (g h)
+  next_once r s (nexts.on q g at is) (nexts.none h are) = absurd (ends_never o n i h g)
+  next_once r s (nexts.none g is) (nexts.on q h at are) = absurd (ends_never o n i g h)
   next_once r s (nexts.none g is) (nexts.none h are) = is ∙ sym are
 
 word_once : (words : List PoolWord) → IsStrictlySortedBy place_cmp (map place_of_word words) → (n : Node) (i : Instr) (r s : Option ℕ) → IsLoaded words n i r → IsLoaded words n i s → r ≡ s

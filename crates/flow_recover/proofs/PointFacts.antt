@@ -29,10 +29,12 @@ use Rattle.flow_recover.specs.Reach.GoesOn.{by_falling, by_return}
 use Rattle.flow_recover.specs.Reach.LeadsOn.{on}
 use Rattle.flow_recover.specs.Reach.LeadsAway.{away}
 use Rattle.flow_recover.specs.Reach.IsReached.{named, led_on, led_away}
-use Rattle.flow_recover.specs.FlowFaults.{refusal_of, literal_place}
-use Rattle.flow_recover.specs.FlowFaults.IsClaim.{by_instr}
+use Rattle.flow_recover.specs.FlowFaults.{IsReachedInstr, refusal_of, literal_place}
+use Rattle.flow_recover.specs.FlowFaults.IsClaim.{by_object, by_instr}
 use Rattle.flow_recover.specs.FlowFaults.{FlowFault as fault}
-use Rattle.flow_recover.specs.WholeFlows.{plain_exit, is_near, IsExit, IsNext, IsLoaded, IsPoint}
+use Rattle.flow_recover.specs.WholeFlows.{plain_exit, is_near, IsExit, IsNext, IsLoaded, IsPoint, Enters, IsEntry}
+use Rattle.flow_recover.specs.WholeFlows.Enters.{by_call, by_symbol}
+use Rattle.flow_recover.specs.WholeFlows.{IsEntry as entry}
 use Rattle.flow_recover.specs.WholeFlows.{IsExit as exits}
 use Rattle.flow_recover.specs.WholeFlows.{IsNext as nexts}
 use Rattle.flow_recover.specs.WholeFlows.{IsLoaded as loads}
@@ -40,7 +42,6 @@ use Rattle.flow_recover.specs.Charts.{AreNodes}
 use Rattle.reloc_places.specs.Tables.{AreStarts}
 use Rattle.flow_recover.specs.Settled.{IsFaultless, IsLoad, ArePlaces, ArePointsOf, word_at}
 use Rattle.elf_model.proofs.Elements.{place_of}
-use Rattle.flow_recover.proofs.OneState.{one_instr}
 use Rattle.reloc_places.proofs.StartFacts.{start_or_none, any_limit, IsInside, start_inside, length_least}
 
 -- an instruction starts at a reached node
@@ -55,19 +56,22 @@ branch_offset (instr.ZeroBranch i) h = refl
 branch_offset _ h = absurd (true≢false (sym h))
 
 -- a found instruction is whole
-pub has_half : (o : ObjectParts) (n : Node) (i : Instr) → is_object o ≡ true → IsTrue (is_within o any_limit) → IsFound o n (Ok i) → n.offset + 2 ≤ length (bytes_of o n.section)
-has_half o n i sound within f = go (is_whole (bytes_of o n.section) f.end n.offset) refl
+pub found_whole : (o : ObjectParts) (n : Node) (i : Instr) (f : IsFound o n (Ok i)) → n.offset + length_at (bytes_of o n.section) n.offset ≤ f.end
+found_whole o n i f = go (is_whole (bytes_of o n.section) f.end n.offset) refl
   where
-    go : (b : Bool) → is_whole (bytes_of o n.section) f.end n.offset ≡ b → n.offset + 2 ≤ length (bytes_of o n.section)
-    go true e =
-        let whole : n.offset + length_at (bytes_of o n.section) n.offset ≤ f.end = leb-true (n.offset + length_at (bytes_of o n.section) n.offset) f.end e in
-        let least = length_least (bytes_of o n.section) n.offset in
-        let inside : IsInside o n.section n.offset f.end = start_inside o n.section n.offset f.end sound within f.start in
-        let in_bytes : f.end ≤ length (bytes_of o n.section) = inside.in_bytes in
-        omega arith
+    go : (b : Bool) → is_whole (bytes_of o n.section) f.end n.offset ≡ b → n.offset + length_at (bytes_of o n.section) n.offset ≤ f.end
+    go true e = leb-true (n.offset + length_at (bytes_of o n.section) n.offset) f.end e
     go false e =
         let bad : Err Unknown ≡ Ok i = sym (ap (λ (b : Bool). cond b (decoded_at (bytes_of o n.section) n.offset n.it) (Err Unknown)) e) ∙ f.is in
         absurd (cc)
+
+pub has_half : (o : ObjectParts) (n : Node) (i : Instr) → is_object o ≡ true → IsTrue (is_within o any_limit) → IsFound o n (Ok i) → n.offset + 2 ≤ length (bytes_of o n.section)
+has_half o n i sound within f =
+    let whole = found_whole o n i f in
+    let least = length_least (bytes_of o n.section) n.offset in
+    let inside : IsInside o n.section n.offset f.end = start_inside o n.section n.offset f.end sound within f.start in
+    let in_bytes : f.end ≤ length (bytes_of o n.section) = inside.in_bytes in
+    omega arith
 
 pub is_point_wide : (o : ObjectParts) (n : Node) (bytes : List ℕ) (l : ℕ) → bytes ≡ bytes_of o n.section → l ≡ length_at bytes n.offset → (l == 4) ≡ is_long (half_at (bytes_of o n.section) n.offset)
 is_point_wide o n bytes l e f = ap (λ (k : ℕ). k == 4) (f ∙ ap (λ (b : List ℕ). length_at b n.offset) e) ∙ go (is_long (half_at (bytes_of o n.section) n.offset))
@@ -104,15 +108,29 @@ module _ (o : ObjectParts) (faultless : IsFaultless o) where
         loads.literal l k.0 (word_at o (n.section, w)) is (slice_get-map (word_at o) places k.0 ∙ ap (λ z. option_map (word_at o) z) k.1) refl at ((index k.0).1 k.1)
 
 module _ (o : ObjectParts) (faultless : IsFaultless o) (end_at : ℕ → ℕ → Option ℕ) (starts : AreStarts o end_at) where
-  -- a branch within its section leads to a node
-  pub near_reached : (n : Node) (i : Instr) (x : ℕ) → IsReached o n → IsFound o n (Ok i) → is_branch i ≡ true → IsAim o n.section n.offset i (Near x) → IsReached o (node_at n.section x)
-  near_reached n i x r f branch aim =
-      let aims : Aims o n i x = record { has = branch_offset i branch; aim = inl aim } in
+  -- a branch or call within its section leads to a node
+  aimed_reached : (n : Node) (i : Instr) (x : ℕ) → IsReachedInstr o n i → Aims o n i x → IsReached o (node_at n.section x)
+  aimed_reached n i x r aims =
       elim (start_or_none o end_at starts n.section x) [
-        | inl s ↦ led_away n (node_at n.section x) r (away i x f aims refl s)
-        | inr none ↦
-            absurd (faultless refusal.IntoMiddle n.section n.offset (fault.no_start n.section x (by_instr n i (record { reached = r; found = f }) aims refl refl refl) none refl))
+        | inl s ↦ led_away n (node_at n.section x) r.reached (away i x r.found aims refl s)
+        | inr none ↦ absurd (faultless refusal.IntoMiddle n.section n.offset (fault.no_start n.section x (by_instr n i r aims refl refl refl) none refl))
       ]
+
+  pub near_reached : (n : Node) (i : Instr) (x : ℕ) → IsReached o n → IsFound o n (Ok i) → is_branch i ≡ true → IsAim o n.section n.offset i (Near x) → IsReached o (node_at n.section x)
+  near_reached n i x r f branch aim = aimed_reached n i x (record { reached = r; found = f }) (record { has = branch_offset i branch; aim = inl aim })
+
+  -- an entry is a node
+  pub entry_reached : (j x : ℕ) → IsEntry o j x → IsReached o (node_at j x)
+  entry_reached j x (entry.named section offset p) =
+      elim (start_or_none o end_at starts j x) [
+        | inl s ↦ named j x section offset p s
+        | inr none ↦ absurd (faultless refusal.IntoMiddle section offset (fault.no_start j x (by_object p) none refl))
+      ]
+  entry_reached j x (entry.entered n i r enters same) = subst (λ (k : ℕ). IsReached o (node_at k x)) (sym same) (aimed_reached n i x r (aims enters))
+    where
+      aims : Enters o n i x → Aims o n i x
+      aims (by_call has branch aim) = record { has = has; aim = inl aim }
+      aims (by_symbol has aim) = record { has = has; aim = inr aim }
 
   -- where control goes on, it leads on
   pub leads_on : (n : Node) (i : Instr) → IsReached o n → IsFound o n (Ok i) → GoesOn o n i → LeadsOn o n (node_behind o n i)
@@ -141,20 +159,11 @@ module _ (o : ObjectParts) (faultless : IsFaultless o) (end_at : ℕ → ℕ →
     pub exit_far : (a : Aim) → is_branch i ≡ true → is_near a ≡ false → IsAim o n.section n.offset i a → IsExit o nodes n i exit.Transfer
     exit_far a h f aim = exits.far a h aim f refl
 
-    -- nothing behind
-    pub next_none : ((m : Node) → (None ≡ Some m) ↔ LeadsOn o n m) → IsNext o nodes n i None
-    next_none leads = nexts.none (λ g. none-some (node_behind o n i) ((leads (node_behind o n i)).1 (leads_on n i reached found g))) refl
-
-    pub next_there : (m : Node) (r : Option ℕ) → ((k : Node) → (Some m ≡ Some k) ↔ LeadsOn o n k) → ((q : ℕ) → (r ≡ Some q) ↔ (slice_get nodes q ≡ Some m)) → IsNext o nodes n i r
-    next_there m r leads index =
-        let led = (leads m).0 refl in
-        let at = place_of nodes m ((are.exact m).1 (led_on n m reached led)) in
-        go led at.0 ((index at.0).1 at.1) at.1
-      where
-        go : LeadsOn o n m → (q : ℕ) → r ≡ Some q → slice_get nodes q ≡ Some m → IsNext o nodes n i r
-        go (on k f g e s) q is at =
-            let same : k ≡ i = one_instr o n k i f found in
-            nexts.on q (subst (λ (z : Instr). GoesOn o n z) same g) (at ∙ ap (λ (z : Node). Some z) (e ∙ ap (λ (z : Instr). node_behind o n z) same)) is
+    pub next_there : (m : Node) (r : Option ℕ) → GoesOn o n i → m ≡ node_behind o n i → ((q : ℕ) → (r ≡ Some q) ↔ (slice_get nodes q ≡ Some m)) → IsNext o nodes n i r
+    next_there m r goes same index =
+        let leads : LeadsOn o n m = subst (λ (z : Node). LeadsOn o n z) (sym same) (leads_on n i reached found goes) in
+        let at = place_of nodes m ((are.exact m).1 (led_on n m reached leads)) in
+        nexts.on at.0 goes (at.1 ∙ ap (λ (z : Node). Some z) same) ((index at.0).1 at.1)
 
 -- a point for each of the first nodes
 pub record ArePointsUpTo (o : ObjectParts) (nodes : List Node) (words : List PoolWord) (i : ℕ) (points : List Point) : Type 0 where

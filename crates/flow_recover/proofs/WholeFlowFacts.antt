@@ -1,5 +1,5 @@
 -- The parts of a flow make it whole.
-use Rattle.std.proofs.Common.{◌≡◌, ◌↔◌, ◌<◌, ◌≤◌, ℕ, ◌^◌, Bool, true, false, List, [], ◌∷◌, length, Ok, map, refl, sym, ap, ◌∙◌, subst, arith, Some, None}
+use Rattle.std.proofs.Common.{◌≡◌, ◌↔◌, ◌<◌, ◌≤◌, ℕ, ◌^◌, Bool, true, false, List, [], ◌∷◌, length, Ok, map, refl, sym, ap, ◌∙◌, subst, arith, Option, Some, None}
 use Rattle.std.specs.Prelude.{IsTrue, Contains, slice_get}
 use Rattle.std.specs.List.Sorted.{IsStrictlySortedBy}
 use Rattle.std.proofs.lemmas.List.Elements.{All-contains}
@@ -18,6 +18,7 @@ use Rattle.code_ranges.specs.Spots.{spot_of, IsFirst}
 use Rattle.flow_recover.specs.Reach.{IsFound, node_at}
 use Rattle.flow_recover.specs.FlowFaults.{IsLaterRefusal}
 use Rattle.flow_recover.specs.WholeFlows.{IsPoint, IsPoolWord, IsEntry, place_of_node, place_of_word, IsFlow}
+use Rattle.reloc_places.specs.Tables.{AreStarts}
 use Rattle.flow_recover.specs.Charts.{AreNamed, AreNodes, AreFaults}
 use Rattle.flow_recover.specs.Settled.{IsFaultless, IsLoadedPlace, ArePlaces, ArePointsOf, word_at, AreEntries}
 use Rattle.elf_model.proofs.Elements.{contains_map, contains_none, map_contains}
@@ -25,7 +26,7 @@ use Rattle.reloc_places.proofs.StartFacts.{any_limit, code_within}
 use Rattle.flow_recover.proofs.NodePlaces.{places_rise}
 use Rattle.flow_recover.proofs.OneState.{one_state}
 use Rattle.flow_recover.proofs.PointCount.{few_nodes}
-use Rattle.flow_recover.proofs.PointFacts.{reached_starts}
+use Rattle.flow_recover.proofs.PointFacts.{reached_starts, entry_reached}
 
 module _ (o : ObjectParts) (nodes : List Node) (are : AreNodes o nodes) (faultless : IsFaultless o) where
   -- the nodes rise by their places
@@ -69,9 +70,9 @@ words_places : (o : ObjectParts) (places : List (ℕ × ℕ)) → map place_of_w
 words_places o [] = refl
 words_places o (p ∷ rest) = ap (λ (l : List (ℕ × ℕ)). p ∷ l) (words_places o rest)
 
-pub flow_is : (o : ObjectParts) (nodes : List Node) (places : List (ℕ × ℕ)) (f : FlowParts) (is_in : ℕ → ℕ → Bool) → is_object o ≡ true → IsTrue (is_within o any_limit) → AreNodes o nodes → IsFaultless o → ArePlaces o places
+flow_is : (o : ObjectParts) (end_at : ℕ → ℕ → Option ℕ) (nodes : List Node) (places : List (ℕ × ℕ)) (f : FlowParts) (is_in : ℕ → ℕ → Bool) → AreStarts o end_at → is_object o ≡ true → IsTrue (is_within o any_limit) → AreNodes o nodes → IsFaultless o → ArePlaces o places
     → ArePointsOf o nodes (map (word_at o) places) f.points → f.words ≡ map (word_at o) places → ((j x : ℕ) → (is_in j x ≡ true) ↔ IsEntry o j x) → AreEntries is_in nodes f.entries → AreRanges o f.ranges → IsFlow o f
-flow_is o nodes places f is_in sound within are faultless words points same entered entries ranges = record {
+flow_is o end_at nodes places f is_in starts sound within are faultless words points same entered entries ranges = record {
   nodes = nodes;
   reached = are.exact;
   order = nodes_rise o nodes are faultless;
@@ -88,18 +89,19 @@ flow_is o nodes places f is_in sound within are faultless words points same ente
         (entries.exact q).1 (node_at h.0 h.1, (h.2.1, record { section = h.0; offset = h.1; entered = (entered h.0 h.1).1 h.2.0; is = refl }))),
   );
   entries_order = entries.order;
+  entered = λ j x e. (are.exact (node_at j x)).1 (entry_reached o faultless end_at starts j x e);
   ranges = ranges;
   no_fault = faultless;
 }
 
 -- the same of parts that are known under other names
-pub flow_made : (o : ObjectParts) (nodes : List Node) (places one two : List (ℕ × ℕ)) (points : List Point) (words : List PoolWord) (entries : List ℕ) (ranges : List Range) (f : FlowParts) (is_in : ℕ → ℕ → Bool) → is_object o ≡ true
+pub flow_made : (o : ObjectParts) (end_at : ℕ → ℕ → Option ℕ) (nodes : List Node) (places one two : List (ℕ × ℕ)) (points : List Point) (words : List PoolWord) (entries : List ℕ) (ranges : List Range) (f : FlowParts) (is_in : ℕ → ℕ → Bool) → AreStarts o end_at → is_object o ≡ true
     → IsTrue (is_within o any_limit) → AreNodes o nodes → IsFaultless o → ArePlaces o places → one ≡ places → two ≡ places → words ≡ map (word_at o) one → ArePointsOf o nodes (map (word_at o) two) points
     → ((j x : ℕ) → (is_in j x ≡ true) ↔ IsEntry o j x) → AreEntries is_in nodes entries → AreRanges o ranges → f ≡ record { points = points; words = words; entries = entries; ranges = ranges } → IsFlow o f
-flow_made o nodes places one two points words entries ranges f is_in sound within are faultless loaded first second same each entered indexes spans e =
+flow_made o end_at nodes places one two points words entries ranges f is_in starts sound within are faultless loaded first second same each entered indexes spans e =
     let made : FlowParts = record { points = points; words = words; entries = entries; ranges = ranges } in
     subst (λ (g : FlowParts). IsFlow o g) (sym e)
-    (flow_is o nodes places made is_in sound within are faultless loaded (subst (λ (l : List (ℕ × ℕ)). ArePointsOf o nodes (map (word_at o) l) points) second each)
+    (flow_is o end_at nodes places made is_in starts sound within are faultless loaded (subst (λ (l : List (ℕ × ℕ)). ArePointsOf o nodes (map (word_at o) l) points) second each)
     (same ∙ ap (λ (l : List (ℕ × ℕ)). map (word_at o) l) first) entered indexes spans)
 
 -- no spot, no fault

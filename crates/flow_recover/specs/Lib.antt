@@ -6,6 +6,7 @@ pub mod WholeFlows
 pub mod Charts
 pub mod Settled
 pub mod DeadEnds
+pub mod Points
 pub mod Walks
 pub mod Gains
 pub mod NamedClaims

@@ -22,7 +22,7 @@ use Rattle.code_ranges.specs.Spans.{place_cmp}
 use Rattle.reloc_places.specs.Starts.{bytes_of}
 use Rattle.reloc_places.specs.Relocations.{reloc_at}
 use Rattle.flow_recover.specs.Aims.{is_branch, has_offset, IsAim, IsNamed}
-use Rattle.flow_recover.specs.Reach.{IsFound, GoesOn, node_behind, node_at, IsReached}
+use Rattle.flow_recover.specs.Reach.{IsFound, GoesOn, EndsAt, node_behind, node_at, IsReached}
 use Rattle.flow_recover.specs.FlowFaults.{IsReachedInstr, literal_place, FlowFault}
 
 -- the exit of an instruction that is no branch
@@ -47,7 +47,7 @@ pub data IsExit (o : ObjectParts) (nodes : List Node) (n : Node) (i : Instr) (e 
 -- the point to which one falls or a call returns
 pub data IsNext (o : ObjectParts) (nodes : List Node) (n : Node) (i : Instr) (next : Option ℕ) : Type 0 where
   on : (q : ℕ) → GoesOn o n i → slice_get nodes q ≡ Some (node_behind o n i) → next ≡ Some q → IsNext o nodes n i next
-  none : ¬ GoesOn o n i → next ≡ None → IsNext o nodes n i next
+  none : EndsAt o n i → next ≡ None → IsNext o nodes n i next
 
 -- the word that a literal load names
 pub data IsLoaded (words : List PoolWord) (n : Node) (i : Instr) (word : Option ℕ) : Type 0 where
@@ -104,8 +104,9 @@ pub record IsFlow (o : ObjectParts) (f : FlowParts) : Type 0 where
   -- the words of code that they load, by section and offset
   pub words : (w : PoolWord) → Contains f.words w ↔ IsPoolWord o w
   pub words_order : IsStrictlySortedBy place_cmp (map place_of_word f.words)
-  -- the points at which control enters
+  -- the points at which control enters, and there is one for each entry
   pub entries : (q : ℕ) → Contains f.entries q ↔ ((j x : ℕ) × (IsEntry o j x × (slice_get nodes q ≡ Some (node_at j x))))
   pub entries_order : IsStrictlyIncreasing f.entries
+  pub entered : (j x : ℕ) → IsEntry o j x → Contains nodes (node_at j x)
   pub ranges : AreRanges o f.ranges
   pub no_fault : (r : Refusal) (section offset : ℕ) → ¬ FlowFault o r section offset

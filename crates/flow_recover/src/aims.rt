@@ -12,12 +12,10 @@ ghost use Rattle.flow_recover.specs.Walks.{offset_in};
 
 use crate::charts::Chart;
 use crate::nodes::Node;
+use elf_model::numbers::LOCAL;
 use elf_model::{Home, Limit, Object, Symbol};
 use reloc_places::target_of;
 use thumb_instr::Instr;
-
-/// The binding of a symbol that no other object sees.
-pub(crate) const LOCAL: u8 = 0;
 
 /// Where a branch or a call leads.
 #[derive(Clone, Copy, Debug, PartialEq, Eq)]

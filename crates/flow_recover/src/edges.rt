@@ -1,12 +1,12 @@
 //! Where control goes on from a node.
 
-ghost use Rattle.std.specs.Prelude.{◌≡◌, ◌↔◌, ◌<◌, ◌^◌, Some, None, IsTrue, if◌then◌else◌, is_some};
+ghost use Rattle.std.specs.Prelude.{◌≡◌, ◌↔◌, ◌<◌, ◌^◌, true, false, Some, None, IsTrue, if◌then◌else◌, is_some};
 ghost use Rattle.std.specs.BTreeMap.{get};
 ghost use Rattle.elf_model.specs.Objects.{is_within};
 ghost use Rattle.flow_recover.specs.declared.nodes.Node.{Node};
 ghost use Rattle.code_ranges.specs.Spans.{place_cmp};
 ghost use Rattle.reloc_places.specs.Starts.{behind};
-ghost use Rattle.flow_recover.specs.Reach.{falls, is_call, may_fall as may_fall_of, IsDeadEnd, GoesOn, LeadsOn, LeadsAway};
+ghost use Rattle.flow_recover.specs.Reach.{falls, is_call, may_fall as may_fall_of, IsDeadEnd, GoesOn, EndsAt, node_behind as node_behind_of, LeadsOn, LeadsAway};
 ghost use Rattle.flow_recover.specs.Charts.{IsChart};
 ghost use Rattle.flow_recover.specs.Walks.{IsStartBehind, IsStartAimed};
 
@@ -57,7 +57,7 @@ fn returns(o: &Object, chart: &Chart, n: Node) -> bool
     requires within { IsTrue (is_within o.now Limit.ANY) }
     requires chart { IsChart o.now chart.now }
     requires low { n.offset < 2 ^ 24 }
-    ensures { IsTrue result ↔ (¬ IsDeadEnd o.now n.section (behind o.now n.section n.offset)) }
+    ensures { (result ≡ false) ↔ IsDeadEnd o.now n.section (behind o.now n.section n.offset) }
 {
     let x = behind(o, n);
     !is_dead_end(o, chart, n.section, x)
@@ -68,9 +68,13 @@ pub(crate) fn goes_on(o: &Object, chart: &Chart, n: Node, i: &Instr) -> bool
     requires within { IsTrue (is_within o.now Limit.ANY) }
     requires chart { IsChart o.now chart.now }
     requires low { n.offset < 2 ^ 24 }
-    ensures { IsTrue result ↔ GoesOn o.now n i.now }
+    ensures goes { result ≡ true → GoesOn o.now n i.now }
+    ensures ends { result ≡ false → EndsAt o.now n i.now }
 {
-    may_fall(n, i) || is_call(i) && returns(o, chart, n)
+    if may_fall(n, i) {
+        return true;
+    }
+    is_call(i) && returns(o, chart, n)
 }
 
 /// A node, if an instruction starts there.
@@ -84,6 +88,18 @@ fn started(chart: &Chart, n: Node) -> Option<Node>
     }
 }
 
+/// The node behind an instruction.
+pub(crate) fn node_behind(o: &Object, n: Node, i: &Instr) -> Node
+    requires { n.offset < 2 ^ 24 }
+    ensures { result ≡ node_behind_of o.now n i.now }
+{
+    Node {
+        section: n.section,
+        offset: behind(o, n),
+        it: state_behind(i, n.it),
+    }
+}
+
 /// The node behind an instruction, if one starts there.
 fn start_behind(o: &Object, chart: &Chart, n: Node, i: &Instr) -> Option<Node>
     requires within { IsTrue (is_within o.now Limit.ANY) }
@@ -91,15 +107,7 @@ fn start_behind(o: &Object, chart: &Chart, n: Node, i: &Instr) -> Option<Node>
     requires low { n.offset < 2 ^ 24 }
     ensures { (m : Node) → (result ≡ Some m) ↔ IsStartBehind o.now n i.now m }
 {
-    let offset = behind(o, n);
-    started(
-        chart,
-        Node {
-            section: n.section,
-            offset,
-            it: state_behind(i, n.it),
-        },
-    )
+    started(chart, node_behind(o, n, i))
 }
 
 /// The node behind, if control goes on there.

@@ -7,10 +7,9 @@ ghost use Rattle.flow_recover.specs.Gains.{Gains, IsFrom};
 ghost use Rattle.flow_recover.specs.NamedClaims.{entry_claim as entry_claim_of, IsEntryClaim, IsAddressClaim, IsBranchClaim};
 ghost use Rattle.flow_recover.specs.Charts.{IsChart, AreNamed};
 
-use crate::aims::LOCAL;
 use crate::charts::Chart;
 use crate::references::{code_home, far_target_of, reference_of};
-use code_ranges::FUNC;
+use elf_model::numbers::{FUNC, LOCAL};
 use elf_model::{Limit, Object, Reloc, Symbol};
 use reloc_places::even;
 use std::alloc::{AllocError, Global};

@@ -9,7 +9,7 @@ ghost use Rattle.flow_recover.specs.Settled.{IsFaultless, ArePlaces, ArePointsOf
 
 use crate::aims::{Aim, aim_of, is_branch};
 use crate::charts::Chart;
-use crate::edges::next_of;
+use crate::edges::{goes_on, node_behind};
 use crate::indexes::{node_index, place_index};
 use crate::instructions::found;
 use crate::literals::{literal_place, reloc_of};
@@ -79,11 +79,13 @@ fn next_index(o: &Object, chart: &Chart, nodes: &[Node], n: Node, i: &Instr) -> 
     requires faultless { IsFaultless o.now }
     requires reached { IsReached o.now n }
     requires found { IsFound o.now n (Ok i.now) }
+    requires low { n.offset < 2 ^ 24 }
     ensures { IsNext o.now nodes.now n i.now result }
 {
-    match next_of(o, chart, n) {
-        None => None,
-        Some(m) => node_index(nodes, m),
+    if goes_on(o, chart, n, i) {
+        node_index(nodes, node_behind(o, n, i))
+    } else {
+        None
     }
 }
 

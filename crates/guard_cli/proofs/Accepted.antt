@@ -5,12 +5,11 @@ use Rattle.elf_model.specs.declared.refusals.TheConstants.Limit.{ANY}
 use Rattle.elf_model.specs.Objects.{ObjectParts}
 use Rattle.elf_model.proofs.OneObject.{only_one_object}
 use Rattle.thumb_table.specs.declared.placements.Placement.{Placement}
-use Rattle.flat_link.specs.Refusals.{IsLinkRefusal}
+use Rattle.thumb_table.specs.LinkFaults.{IsLinkRefusal}
 use Rattle.guard_cli.specs.Linkable.{IsLinkable}
 use Rattle.guard_cli.specs.LinkWork.{IsOf, IsLinkInputRefusal, HasImage}
 use Rattle.guard_cli.specs.ListWork.{IsListRefusal, IsReadable}
 use Rattle.guard_cli.proofs.Answered.{handled_is_accepted}
-use Rattle.guard_cli.proofs.SameImages.{no_link_fault}
 
 -- A file of one object is of no other.
 pub one_of : (file : List ℕ) (a b : ObjectParts) → IsOf file a → IsOf file b → a ≡ b
@@ -22,7 +21,7 @@ image_is_accepted at file spot (o, image, is, linked) (inl read) = handled_is_ac
 image_is_accepted at file spot (o, image, is, linked) (inr (other, its, refusal)) =
     let same = one_of file other o its is in
     let here : IsLinkRefusal (o ∷ []) at spot = subst (λ (x : ObjectParts). IsLinkRefusal (x ∷ []) at spot) same refusal in
-    no_link_fault (o ∷ []) at spot.refusal spot.file spot.section linked.can here.fault
+    linked.can.sound spot here.fault
 
 -- A file that is read is not refused.
 pub readable_is_accepted : (file : List ℕ) (spot : Spot) → IsReadable file → IsListRefusal file spot → ⊥

@@ -8,7 +8,10 @@ use Rattle.thumb_table.specs.Effects.{change}
 use Rattle.thumb_table.specs.States.{State, read}
 use Rattle.thumb_table.specs.declared.faults.FaultKind.{FaultKind}
 use Rattle.thumb_table.specs.Schedules.{run, is_in}
-use Rattle.thumb_table.specs.Images.{code_bytes_of, data_bytes_of, code_parts, entries_of, start, entry_of}
+use Rattle.thumb_table.specs.Layouts.{code_bytes_of, data_bytes_of, code_parts}
+use Rattle.thumb_table.specs.Names.{entries_of}
+use Rattle.thumb_table.specs.Images.{entry_of}
+use Rattle.thumb_table.specs.Calls.{start}
 use Rattle.thumb_table.specs.Parts.{Image}
 use Rattle.thumb_table.specs.declared.placements.Placement.{Placement}
 

@@ -1,5 +1,5 @@
 -- A control of what hardening promises: the same code, with a map but each instruction once, isn't hardened, whatever the map says.
-use Rattle.std.proofs.Common.{◌≡◌, ℕ, ◌+◌, ◌<◌, false, List, [], ◌∷◌, Ok, codes, refl, sym, ap, ◌∙◌, subst, inl, inr, lit<, lit≤, ◌||◌, Result, true≢false, ne_eqb, arith}
+use Rattle.std.proofs.Common.{◌≡◌, ◌≢◌, ℕ, ◌+◌, ◌*◌, ◌<◌, false, List, [], ◌∷◌, Ok, codes, refl, sym, ap, ◌∙◌, subst, inl, inr, lit<, lit≤, ◌||◌, Result, true≢false, ne_eqb, arith}
 use Rattle.std.proofs.lemmas.List.Elements.{All-cons, All-nil}
 use Rattle.std.proofs.lemmas.Option.{same_Some}
 use Rattle.elf_model.specs.declared.objects.Section.{Section}
@@ -13,12 +13,14 @@ use Rattle.thumb_table.specs.Effects.{change}
 use Rattle.thumb_table.specs.Ordinary.{IsPlain, IsLow}
 use Rattle.thumb_table.specs.Steps.{move, fetch, IsOrdinary}
 use Rattle.thumb_table.specs.Schedules.{run, IsLegal, Returns, OrdinaryRun, is_in, exit}
-use Rattle.thumb_table.specs.Images.{IsPlacement, IsImage, start}
+use Rattle.thumb_table.specs.Layouts.{IsPlacement}
+use Rattle.thumb_table.specs.Images.{IsImage}
+use Rattle.thumb_table.specs.Calls.{start}
 use Rattle.thumb_table.specs.Parts.{Image}
 use Rattle.thumb_table.specs.declared.placements.Placement.{Placement}
 use Rattle.guard_cli.specs.AddressMaps.{SameWord}
 use Rattle.guard_cli.specs.Hardened.{AreArguments, EndsAlike, Hardened}
-use Rattle.guard_cli.proofs.Sequences.{ends_once}
+use Rattle.guard_cli.proofs.Sequences.{returns_of, ends_once}
 use Rattle.guard_cli.proofs.FirstRuns.{after_moves}
 use Rattle.guard_cli.proofs.FirstImages.{lone_object, AreIdle, none_idle, map_idle}
 use Rattle.guard_cli.proofs.FirstLinks.{lone_image, lone_is_image}
@@ -60,8 +62,11 @@ plain_run : run both.code (λ i. false) 2 0 begun ≡ Ok ended
 unfolding half_rows change
 plain_run = refl
 
-abbrev returns : Returns both.code (λ i. false) 2 begun ended
-returns = record { steps = 2; within = lit≤ tt; runs = plain_run; over = refl }
+begins_elsewhere : begun.pc ≢ exit
+begins_elsewhere e = let same : 0x8000 ≡ 0x7FFFFFFE = e in omega arith
+
+returns : Returns both.code (λ i. false) 2 0 begun ended
+returns = returns_of both.code (λ i. false) 2 0 begun ended refl begins_elsewhere refl plain_run
 
 -- the state behind the move
 abbrev moved : State
@@ -88,8 +93,8 @@ ordinary_return = λ t. record {
   proper = inr ((0x7FFFFFFF, refl), inl refl);
 }
 
-is_ordinary : OrdinaryRun both.code 2 begun
-is_ordinary = (ordinary_move, λ next e. subst (OrdinaryRun both.code 1) (one_end (move both.code false begun) moved next first_step e) (ordinary_return, λ after f. tt))
+is_ordinary : OrdinaryRun both.code (λ i. false) 2 0 begun
+is_ordinary = (λ e. ordinary_move, λ next e. subst (OrdinaryRun both.code (λ i. false) 1 1) (one_end (move both.code false begun) moved next first_step e) (λ f. ordinary_return, λ after f. tt))
 
 -- the move is skipped, and the return is not
 is_legal : IsLegal 2 (0 ∷ [])
@@ -105,15 +110,15 @@ skipped_run = refl
 not_nine : (n : ℕ) → n ≡ 5 → n ≡ 9 → ⊥
 not_nine n e f = omega arith
 
-differs : (maps : List (List MapRow)) (F : ℕ) → EndsAlike both both maps F 2 begun ended begun → ⊥
+differs : (maps : List (List MapRow)) (F : ℕ) → EndsAlike both both maps (IsLegal 2) 4 (F * 2) ended begun → ⊥
 differs maps F ends =
     let q = ends (0 ∷ []) is_legal in
-    let same : q.0 ≡ at exit begun.core = (ends_once both.code (is_in (0 ∷ [])) q.1.steps 2 0 begun q.0 (at exit begun.core) refl q.1.over refl q.1.runs skipped_run).1 in
-    let alike : SameWord both both maps (read ended.core 0) (read q.0.core 0) = q.2.low 0 (lit< tt) in
+    let same : q.0 ≡ at exit begun.core = (ends_once both.code (is_in (0 ∷ [])) q.1.steps 2 0 begun q.0 (at exit begun.core) refl q.1.returns.over refl q.1.returns.goes.runs skipped_run).1 in
+    let alike : SameWord both both maps (read ended.core 0) (read q.0.core 0) = q.2.registers.given 0 (lit< tt) in
     not_nine 5 refl (alike ∙ ap (λ (s : State). (read s.core 0).bits) same)
 
 pub undoubled_not_hardened : (rows : List MapRow) (F : ℕ) → Hardened (first_object halves ∷ []) (lone_object (code_bytes halves) (undoubled rows) ∷ []) F → ⊥
 undoubled_not_hardened rows F h =
     let a = h.alike place both both (is_image [] none_idle) (is_image (undoubled rows) (map_idle rows)) (codes "f") args are_args 0x8001 refl 2 ended returns is_ordinary in
     let entry : a.0 ≡ 0x8001 = sym (same_Some 0x8001 a.0 a.1) in
-    differs h.maps F (subst (λ (e : ℕ). EndsAlike both both h.maps F 2 begun ended (start both 8 e args)) entry a.3)
+    differs h.maps F (subst (λ (e : ℕ). EndsAlike both both h.maps (IsLegal 2) 4 (F * 2) ended (start both 8 e args)) entry a.3)

@@ -1,13 +1,14 @@
 -- Doubling hardens an object of the first form, with at most two instructions for one.
-use Rattle.std.proofs.Common.{◌≡◌, ℕ, ◌+◌, ◌*◌, ◌≤◌, Bool, false, List, [], ◌∷◌, length, Some, None, All, refl, sym, ap, ◌∙◌, subst, inl, Ok, le_trans, arith}
+use Rattle.std.proofs.Common.{◌≡◌, ℕ, ◌+◌, ◌*◌, ◌≤◌, Bool, false, List, [], ◌∷◌, length, Some, None, All, refl, sym, ap, ◌∙◌, subst, inl, le_trans, arith}
 use Rattle.elf_model.specs.declared.objects.MapRow.{MapRow}
 use Rattle.guard_cli.specs.FirstForm.{IsFirstCode, code_bytes, first_object}
 use Rattle.guard_cli.specs.Output.{doubled, hardened_object}
 use Rattle.mark_word.specs.Words.{Word}
 use Rattle.thumb_table.specs.Parts.{CodeBytes, Memory}
 use Rattle.thumb_table.specs.States.{Core, State, at}
-use Rattle.thumb_table.specs.Schedules.{Returns, run, is_in, exit}
-use Rattle.thumb_table.specs.Images.{IsImage, entry_of, start}
+use Rattle.thumb_table.specs.Schedules.{IsLegal, Returns, ReturnsWithin, is_in, exit}
+use Rattle.thumb_table.specs.Images.{IsImage, entry_of}
+use Rattle.thumb_table.specs.Calls.{start}
 use Rattle.thumb_table.specs.Parts.{Image}
 use Rattle.thumb_table.specs.declared.placements.Placement.{Placement}
 use Rattle.guard_cli.specs.AddressMaps.{TakesEntry, SameState}
@@ -35,7 +36,7 @@ starts_at : (place : Placement) (bytes : List ℕ) (image : Image) → IsFormed 
 starts_at place bytes image i args = ap (λ (pc : ℕ). at pc (begun image place args)) (even_of_entry place.base i.placement.base_even ∙ sym i.base)
 
 -- the state at the end is the same in both images
-end_is_same : (halves : List ℕ) (is : IsFirstCode halves) (place : Placement) (one two plain : Image) → plain.memory.cells ≡ [] → (maps : List (List MapRow)) (args : List ℕ) → SameState one two maps (ended is.moves (begun plain place args)) (ended is.moves (begun plain place args))
+end_is_same : (halves : List ℕ) (is : IsFirstCode halves) (place : Placement) (one two plain : Image) → plain.memory.cells ≡ [] → (maps : List (List MapRow)) (args : List ℕ) → SameState one two maps 4 (ended is.moves (begun plain place args)) (ended is.moves (begun plain place args))
 end_is_same halves is place one two plain e maps args =
     let x = begun plain place args in
     let kept = after_moves_plain is.moves x refl in
@@ -44,40 +45,40 @@ end_is_same halves is place one two plain e maps args =
     (ap (λ (w : Word). w.mark) (kept.high 13 (omega arith)))
     (subst (λ m. All IsBare m.cells) (sym kept.memory) (cells_are_bare plain e place.stack))
 
--- a call that ends so from a state ends so from that state under another name, and within more steps
-from_there : (code : CodeBytes) (skips : ℕ → Bool) (m n : ℕ) (s u t : State) → s ≡ u → m ≤ n → Returns code skips m s t → Returns code skips n u t
+-- a call that returns so from a state returns so from that state under another name, and within more steps
+from_there : (code : CodeBytes) (skips : ℕ → Bool) (m n : ℕ) (s u t : State) → s ≡ u → m ≤ n → ReturnsWithin code skips m 0 s t → ReturnsWithin code skips n 0 u t
 from_there code skips m n s u t e more r = record {
   steps = r.steps;
   within = le_trans r.within more;
-  runs = subst (λ (v : State). run code skips r.steps 0 v ≡ Ok t) e r.runs;
-  over = r.over;
+  returns = subst (λ (v : State). Returns code skips r.steps 0 v t) e r.returns;
 }
 
 -- what hardening promises of a call that starts at an entry
 abbrev CallsAlike : Image → Image → Placement → List ℕ → List ℕ → List ℕ → ℕ → State → ℕ → Type 0
 CallsAlike plain hard place halves name args n end entry =
-    Returns plain.code (λ k. false) n (start plain place.stack entry args) end →
+    Returns plain.code (λ k. false) n 0 (start plain place.stack entry args) end →
     (hard_entry : ℕ) × (entry_of hard.entries name ≡ Some hard_entry) × TakesEntry plain hard (maps_of halves) entry hard_entry
-    × EndsAlike plain hard (maps_of halves) 2 n (start plain place.stack entry args) end (start hard place.stack hard_entry args)
+    × EndsAlike plain hard (maps_of halves) (IsLegal 2) 4 (2 * n) end (start hard place.stack hard_entry args)
 
 module _ (halves : List ℕ) (is : IsFirstCode halves) (place : Placement) (plain hard : Image) (i : IsFormed place (code_bytes halves) plain) (j : IsFormed place (code_bytes (doubled halves)) hard) where
   same_begun : (args : List ℕ) → begun hard place args ≡ begun plain place args
   same_begun args = ap (λ (s : State). s.core) (same_start hard plain (j.memory ∙ sym i.memory) place.stack (place.base + 1) args)
 
-  ends_alike : (args : List ℕ) (n : ℕ) (end : State) → Returns plain.code (λ k. false) n (start plain place.stack (place.base + 1) args) end →
-      EndsAlike plain hard (maps_of halves) 2 n (start plain place.stack (place.base + 1) args) end (start hard place.stack (place.base + 1) args)
+  ends_alike : (args : List ℕ) (n : ℕ) (end : State) → Returns plain.code (λ k. false) n 0 (start plain place.stack (place.base + 1) args) end →
+      EndsAlike plain hard (maps_of halves) (IsLegal 2) 4 (2 * n) end (start hard place.stack (place.base + 1) args)
   ends_alike args n end r schedule legal =
       let x = begun plain place args in
       let ready = start_is_ready plain place.stack (place.base + 1) args in
-      let here : Returns plain.code (λ k. false) n (at plain.code.base x) end = from_there plain.code (λ k. false) n n (start plain place.stack (place.base + 1) args) (at plain.code.base x) end (starts_at place (code_bytes halves) plain i args) (omega arith) r in
+      let here : Returns plain.code (λ k. false) n 0 (at plain.code.base x) end = subst (λ (s : State). Returns plain.code (λ k. false) n 0 s end) (starts_at place (code_bytes halves) plain i args) r in
       let plain_fits : plain.code.base + 2 * length halves ≤ 0x7FFFF000 = omega (arith, i.base, i.fits, i.end_fits, length-code_bytes halves) in
+      let hard_fits : hard.code.base + length hard.code.bytes ≤ 0x7FFFF000 = omega (arith, j.base, j.fits, j.end_fits, ap length j.bytes_are) in
       let found = plain_end plain.code halves is i.bytes_are plain_fits x ready n end here in
       let there : at hard.code.base x ≡ start hard place.stack (place.base + 1) args = sym (starts_at place (code_bytes (doubled halves)) hard j args ∙ ap (at hard.code.base) (same_begun args)) in
-      let more : 2 * length halves ≤ 2 * n = omega (arith, found.0, here.within) in (
+      let more : 2 * length halves ≤ 2 * n = omega (arith, found.0) in (
         ended is.moves x,
         from_there hard.code (is_in schedule) (2 * length halves) (2 * n) (at hard.code.base x) (start hard place.stack (place.base + 1) args) (ended is.moves x) there more
-            (hard_run hard.code halves is j.bytes_are x ready (is_in schedule) (legal_of 2 schedule legal)),
-        subst (λ (s : State). SameState plain hard (maps_of halves) s (ended is.moves x)) (sym found.1) (end_is_same halves is place plain hard plain (ap (λ (m : Memory). m.cells) i.memory) (maps_of halves) args),
+            (hard_run hard.code halves is j.bytes_are hard_fits x ready (is_in schedule) (legal_of 2 schedule legal)),
+        subst (λ (s : State). SameState plain hard (maps_of halves) 4 s (ended is.moves x)) (sym found.1) (end_is_same halves is place plain hard plain (ap (λ (m : Memory). m.cells) i.memory) (maps_of halves) args),
       )
 
   calls_alike : (name args : List ℕ) (entry : ℕ) → entry_of plain.entries name ≡ Some entry → (n : ℕ) (end : State) → CallsAlike plain hard place halves name args n end entry

@@ -10,7 +10,10 @@ use Rattle.elf_model.specs.Maps.{map_section}
 use Rattle.guard_cli.specs.FirstForm.{code_bytes, text_section, code_symbol, function_symbol, first_object}
 use Rattle.guard_cli.specs.Output.{doubled, rows_of, hardened_object}
 use Rattle.mark_word.specs.Words.{bare}
-use Rattle.thumb_table.specs.Images.{Placed, as_part, IsPlacement, IsImage, is_data, chosen, placed, bytes_from, code_parts, data_parts, code_bytes_of, data_bytes_of, entries_of, entry_of, even}
+use Rattle.thumb_table.specs.Layouts.{Placed, as_part, IsPlacement, chosen, placed, bytes_from, code_parts, data_parts, code_bytes_of, data_bytes_of}
+use Rattle.thumb_table.specs.Names.{entries_of}
+use Rattle.thumb_table.specs.Images.{IsImage, is_data, entry_of, even}
+use Rattle.thumb_table.proofs.PlainImages.{one_plain, has_room, plain_image}
 use Rattle.thumb_table.specs.Parts.{Image}
 use Rattle.thumb_table.specs.declared.parts.Part.{Part}
 use Rattle.thumb_table.specs.declared.parts.NamedEntry.{NamedEntry}
@@ -94,7 +97,10 @@ pub record IsFormed (at : Placement) (bytes : List ℕ) (image : Image) : Type 0
   pub end_fits : at.base + at.room ≤ 0x7FFFF000
 
 pub lone_formed : (bytes : List ℕ) (more : List Section) → AreIdle more → (at : Placement) (image : Image) → IsImage (lone_object bytes more ∷ []) at image → IsFormed at bytes image
-lone_formed bytes more idle at image i =
+lone_formed bytes more idle at image is =
+    let plain = one_plain (lone_object bytes more) refl in
+    let i = plain_image (lone_object bytes more ∷ []) at plain image is in
+    let room = has_room (lone_object bytes more ∷ []) at is.can in
     let p = i.placement in
     let same_places = lone_parts bytes more idle at p in
     record {
@@ -104,8 +110,8 @@ lone_formed bytes more idle at image i =
       bytes_are = i.code_bytes ∙ lone_code_bytes bytes more idle at p;
       memory = i.memory ∙ ap (λ (b : List ℕ). record { base = at.base + at.room; cells = map bare b }) (lone_data_bytes bytes more idle at p);
       entries = i.entries ∙ ap (entries_of (lone_object bytes more ∷ [])) same_places ∙ lone_entries bytes more idle at p;
-      fits = subst (λ (b : List ℕ). length b ≤ at.room) (lone_code_bytes bytes more idle at p) i.can.code_fits;
-      end_fits = omega (arith, i.can.end_fits);
+      fits = subst (λ (b : List ℕ). length b ≤ at.room) (lone_code_bytes bytes more idle at p) room.code;
+      end_fits = omega (arith, room.last);
     }
 
 pub first_formed : (halves : List ℕ) (at : Placement) (image : Image) → IsImage (first_object halves ∷ []) at image → IsFormed at (code_bytes halves) image

@@ -2,7 +2,6 @@
 use Rattle.std.proofs.Common.{◌≡◌, ◌⊎◌, ℕ, zero, suc, ◌+◌, ◌%◌, ◌<◌, ◌≤◌, true, List, [], ◌∷◌, length, map, Some, codes, Contains, slice_get, refl, sym, ap, ◌∙◌, subst, inl, inr, true≢false, length-append, lit<, arith}
 use Rattle.std.specs.List.Sorted.{IsStrictlyIncreasing}
 use Rattle.std.proofs.lemmas.Bool.{cases_lt}
-use Rattle.std.proofs.lemmas.List.Elements.{All-cons, All-nil}
 use Rattle.std.proofs.lemmas.Option.{same_Some}
 use Rattle.elf_model.specs.declared.objects.Section.{Section}
 use Rattle.elf_model.specs.declared.objects.Symbol.{Symbol}
@@ -12,7 +11,11 @@ use Rattle.elf_model.specs.Maps.{map_section}
 use Rattle.guard_cli.specs.FirstForm.{IsFirstCode, code_bytes, first_object, code_symbol, function_symbol}
 use Rattle.guard_cli.specs.Output.{doubled, rows_of, hardened_object}
 use Rattle.mark_word.specs.Words.{bare}
-use Rattle.thumb_table.specs.Images.{Placed, as_part, IsPlacement, Defined, IsDataStart, IsStop, CanLink, IsImage, entries_of, code_bytes_of, is_function, even, address_of}
+use Rattle.thumb_table.specs.Layouts.{Placed, as_part, IsPlacement, code_bytes_of}
+use Rattle.thumb_table.specs.Names.{Defined, entries_of, is_function, address_of}
+use Rattle.thumb_table.specs.Images.{IsDataStart, IsStop, CanLink, IsImage, even}
+use Rattle.thumb_table.specs.LinkFaults.{StandsBefore, IsSecond}
+use Rattle.thumb_table.proofs.PlainImages.{one_plain, plain_links, image_plain}
 use Rattle.elf_model.specs.Ranges.{is_mapping_of}
 use Rattle.thumb_table.specs.Parts.{Image}
 use Rattle.thumb_table.specs.declared.placements.Placement.{Placement}
@@ -92,18 +95,23 @@ module _ (bytes : List ℕ) (more : List Section) where
     lone_links : CanLink (lone bytes more) at
     lone_links =
         let none = lone_data_bytes bytes more idle at p in
-        record {
-          no_relocations = All-cons (λ (o : ObjectParts). o.relocs ≡ []) (lone_object bytes more) [] refl (All-nil (λ (o : ObjectParts). o.relocs ≡ []));
-          once = (λ d e there also same.
-              let both : d ≡ e = only_one (the_function bytes) d there ∙ sym (only_one (the_function bytes) e also) in
-              (ap (λ (v : Defined). v.object) both, ap (λ (v : Defined). v.index) both));
-          code_fits = subst (λ (b : List ℕ). length b ≤ at.room) (sym (lone_code_bytes bytes more idle at p)) fits;
-          data_fits = subst (λ (b : List ℕ). round_up (length b) 8 + at.stack ≤ 16777216) (sym none) (omega (arith, p.stack_high));
-          end_fits = subst (λ (b : List ℕ). at.base + at.room + length b ≤ 0x7FFFF000) (sym none) (omega arith);
-        }
+        plain_links (lone bytes more) at (one_plain (lone_object bytes more) refl) one_definition (record {
+          code = subst (λ (b : List ℕ). length b ≤ at.room) (sym (lone_code_bytes bytes more idle at p)) fits;
+          memory = subst (λ (b : List ℕ). round_up (length b) 8 + at.stack ≤ 16777216) (sym none) (omega (arith, p.stack_high));
+          last = subst (λ (b : List ℕ). at.base + at.room + length b ≤ 0x7FFFF000) (sym none) (omega arith);
+        })
+      where
+        one_definition : (d : Defined) → IsSecond (lone bytes more) d → ⊥
+        one_definition d second =
+            let both : second.earlier ≡ d = only_one (the_function bytes) second.earlier second.was ∙ sym (only_one (the_function bytes) d second.is) in
+            apart (ap (λ (v : Defined). v.object) both) (ap (λ (v : Defined). v.index) both) second.before
+          where
+            apart : second.earlier.object ≡ d.object → second.earlier.index ≡ d.index → StandsBefore second.earlier d → ⊥
+            apart e f (inl l) = omega arith
+            apart e f (inr l) = let h = l.1 in omega arith
 
     pub lone_is_image : 0 < length bytes → IsImage (lone bytes more) at (lone_image bytes at)
-    lone_is_image long = record {
+    lone_is_image long = image_plain (lone bytes more) at (one_plain (lone_object bytes more) refl) (lone_image bytes at) (record {
       placement = p;
       can = lone_links;
       parts = ap (map as_part) (sym (lone_parts bytes more idle at p));
@@ -119,7 +127,7 @@ module _ (bytes : List ℕ) (more : List Section) where
       memory = ap (λ (b : List ℕ). record { base = at.base + at.room; cells = map bare b }) (sym (lone_data_bytes bytes more idle at p));
       room = refl;
       entries = sym (ap (entries_of (lone bytes more)) (lone_parts bytes more idle at p) ∙ lone_entries bytes more idle at p);
-    }
+    })
 
 -- Where an object of the first form has an image, what is made of it has one, unless its code is longer than the room.
 pub first_links : (halves : List ℕ) → IsFirstCode halves → (at : Placement) (plain : Image) → IsImage (first_object halves ∷ []) at plain →

@@ -93,7 +93,7 @@ pub takes_entry : (halves : List ℕ) → IsFirstCode halves → (at : Placement
     TakesEntry plain hard (maps_of halves) (at.base + 1) (at.base + 1)
 takes_entry halves is at plain hard p q =
     let same_place : even (at.base + 1) ≡ at.base = even_of_entry at.base p.placement.base_even in
-    record {
+    inr (record {
       old_part = text_part at.base (code_bytes halves);
       holds = record {
         there = subst (λ ps. Contains ps (text_part at.base (code_bytes halves))) (sym p.parts) (0, lit< tt, refl);
@@ -114,4 +114,4 @@ takes_entry halves is at plain hard p q =
       of_object = refl;
       of_ordinal = refl;
       gives = omega (arith, p.placement.base_even, p.placement.base_fits);
-    }
+    })

@@ -21,10 +21,10 @@ use Rattle.thumb_instr.specs.Blocks.{place_in_block}
 use Rattle.thumb_table.specs.States.{Core, State, Change, Site, Jumps, at, read, applied, unchanged}
 use Rattle.thumb_table.specs.Effects.{change, jump_to}
 use Rattle.thumb_table.specs.Steps.{Fetched, takes_effect, goes_on, step_of}
-use Rattle.thumb_table.specs.Schedules.{run, exit, Returns}
+use Rattle.thumb_table.specs.Schedules.{run, exit, Returns, ReturnsWithin}
 use Rattle.guard_cli.specs.Output.{doubled}
-use Rattle.guard_cli.proofs.Groups.{Legal, Leaps, JumpGroup, Comes, it_stays, steps_to, first_step, run_on, comes_on, returns_of, jump_group}
-use Rattle.guard_cli.proofs.Sequences.{Stands, Chain, Settles, stands_split, sequence, ends_once}
+use Rattle.guard_cli.proofs.Groups.{Legal, Leaps, JumpGroup, Comes, it_stays, steps_to, first_step, run_on, comes_on, jump_group}
+use Rattle.guard_cli.proofs.Sequences.{Stands, Chain, Settles, stands_split, sequence, returns_of, ends_once}
 use Rattle.guard_cli.proofs.Standing.{narrow, IsNarrow, stands_all, fetch_past, doubled_copies, single_copies, length-code_bytes}
 
 -- `movs d, #i`
@@ -69,15 +69,16 @@ decode_return : decode Outside return_half 0 ≡ Ok (Jump (record { m = 14 }))
 unfolding half_rows
 decode_return = refl
 
-abbrev register_set : ℕ → ℕ → Core → Change
-register_set d i x = record unchanged { regs = (d, plain i) ∷ []; n = Some false; z = Some (i == 0); c = Some x.c }
+abbrev register_set : ℕ → ℕ → Change
+register_set d i = record unchanged { regs = (d, plain i) ∷ []; n = Some false; z = Some (i == 0) }
 
-change_move : (d i : ℕ) (site : Site) (x : Core) → d < 8 → i < 256 → change (Move (record { op = Mov; s = true; d = d; x = Imm i })) site x ≡ Ok (register_set d i x)
+change_move : (d i : ℕ) (site : Site) (x : Core) → d < 8 → i < 256 → change (Move (record { op = Mov; s = true; d = d; x = Imm i })) site x ≡ Ok (register_set d i)
 unfolding change
 change_move d i site x ld li =
     let e1 : i / 2147483648 ≡ 0 = omega arith in
     let e2 = ne_eqb d 13 (omega arith) in
-    rw (expand_low i x.c li, e1, e2)
+    let e3 : i / 1024 % 4 ≡ 0 = omega arith in
+    rw (expand_low i false li, e1, e2, e3)
 
 set_again : (d i : ℕ) (x : Core) → set_register d i (set_register d i x) ≡ set_register d i x
 set_again d i x = rw set-set
@@ -96,7 +97,7 @@ pub move_settles : (code : CodeBytes) (h : ℕ) (x : Core) → IsMove h → x.it
 move_settles code h x e it =
     let d = h / 256 % 8 in
     let i = h % 256 in
-    let once = λ (a : ℕ) (y : Core) (c : y.it ≡ 0). does code (narrow h) a y (Move (record { op = Mov; s = true; d = d; x = Imm i })) (register_set d i y) c (decode_move h e) (change_move d i (record { code = code; address = a; width = 2 }) y (omega arith) (omega arith)) in
+    let once = λ (a : ℕ) (y : Core) (c : y.it ≡ 0). does code (narrow h) a y (Move (record { op = Mov; s = true; d = d; x = Imm i })) (register_set d i) c (decode_move h e) (change_move d i (record { code = code; address = a; width = 2 }) y (omega arith) (omega arith)) in
     record {
       makes = λ a. once a x it ∙ ap (λ y. Ok (at (a + 2) (set_register d i y))) (it_stays x it);
       keeps = λ a. once a (after_move h x) it ∙ ap (λ y. Ok (at (a + 2) y)) (ap (λ y. set_register d i y) (it_stays (after_move h x) it) ∙ set_again d i x);
@@ -204,14 +205,14 @@ plain_run code halves first bytes x ready =
     run_on code (λ i. false) n 1 (length halves) 0 n (at code.base x) (at parts.0 y) count (omega arith) body ∙ last
 
 -- Each plain call of the code ends there, after as many steps.
-pub plain_end : (code : CodeBytes) (halves : List ℕ) → (first : IsFirstCode halves) → code.bytes ≡ code_bytes halves → code.base + 2 * length halves ≤ 0x7FFFF000 → (x : Core) → IsReady x → (n : ℕ) (t : State) → (r : Returns code (λ i. false) n (at code.base x) t) → (r.steps ≡ length halves) × (t ≡ at exit (after_moves first.moves x))
+pub plain_end : (code : CodeBytes) (halves : List ℕ) → (first : IsFirstCode halves) → code.bytes ≡ code_bytes halves → code.base + 2 * length halves ≤ 0x7FFFF000 → (x : Core) → IsReady x → (n : ℕ) (t : State) → Returns code (λ i. false) n 0 (at code.base x) t → (n ≡ length halves) × (t ≡ at exit (after_moves first.moves x))
 plain_end code halves first bytes room x ready n t r =
     let none = fetch_past code exit (omega (arith, ap length bytes, length-code_bytes halves)) in
-    ends_once code (λ i. false) r.steps (length halves) 0 (at code.base x) t (at exit (after_moves first.moves x)) none r.over refl r.runs (plain_run code halves first bytes x ready)
+    ends_once code (λ i. false) n (length halves) 0 (at code.base x) t (at exit (after_moves first.moves x)) none r.over refl r.goes.runs (plain_run code halves first bytes x ready)
 
 -- THE HARDENED RUN: each instruction twice, under each legal schedule
-pub hard_run : (code : CodeBytes) (halves : List ℕ) → (first : IsFirstCode halves) → code.bytes ≡ code_bytes (doubled halves) → (x : Core) → IsReady x → (skips : ℕ → Bool) → Legal 2 skips → Returns code skips (2 * length halves) (at code.base x) (at exit (after_moves first.moves x))
-hard_run code halves first bytes x ready skips legal =
+pub hard_run : (code : CodeBytes) (halves : List ℕ) → (first : IsFirstCode halves) → code.bytes ≡ code_bytes (doubled halves) → code.base + length code.bytes ≤ 0x7FFFF000 → (x : Core) → IsReady x → (skips : ℕ → Bool) → Legal 2 skips → ReturnsWithin code skips (2 * length halves) 0 (at code.base x) (at exit (after_moves first.moves x))
+hard_run code halves first bytes room x ready skips legal =
     let moves = first.moves in
     let y = after_moves moves x in
     let q = code.base + 2 * length (doubled halves) in
@@ -231,4 +232,9 @@ hard_run code halves first bytes x ready skips legal =
     let last = jump_group code skips 2 (0 + n) parts.0 exit y y (still_ready moves x ready).clear jumps l.0 l.1 l.2 in
     let begun : Comes code skips n 0 (at code.base x) (at parts.0 y) = record { steps = n; within = omega arith; runs = body } in
     let count : n + 2 ≡ 2 * length halves = omega (arith, length-map moves narrow, length_of halves first) in
-    returns_of code skips (2 * length halves) (at code.base x) (at exit y) refl (comes_on code skips n 2 (2 * length halves) 0 (at code.base x) (at parts.0 y) (at exit y) count begun last)
+    let whole = comes_on code skips n 2 (2 * length halves) 0 (at code.base x) (at parts.0 y) (at exit y) count begun last in
+    record {
+      steps = whole.steps;
+      within = whole.within;
+      returns = returns_of code skips whole.steps 0 (at code.base x) (at exit y) (fetch_past code exit (omega arith)) (λ e. let same : code.base ≡ 0x7FFFFFFE = e in omega arith) refl whole.runs;
+    }

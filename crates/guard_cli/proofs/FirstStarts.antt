@@ -10,7 +10,7 @@ use Rattle.mark_word.specs.declared.marks.Mark.{Mark}
 use Rattle.mark_word.specs.declared.marks.Mark.TheVariants.{Plain, Return}
 use Rattle.thumb_table.specs.Parts.{Memory}
 use Rattle.thumb_table.specs.States.{State, read}
-use Rattle.thumb_table.specs.Images.{argument, start_regs, run_cells, start}
+use Rattle.thumb_table.specs.Calls.{argument, start_regs, run_cells, start}
 use Rattle.thumb_table.specs.Parts.{Image}
 use Rattle.guard_cli.specs.AddressMaps.{SameWord, SameBits, SameCell, SameByte, SameState}
 
@@ -58,11 +58,16 @@ plain_is_same one two maps w e = subst (λ (m : Mark). SameBits one two maps m w
 bare_is_same : (one two : Image) (maps : List (List MapRow)) (c : Cell) → IsBare c → SameCell one two maps c c
 bare_is_same one two maps c e = subst (λ (p : Option Piece). SameByte one two maps p c.byte c.byte) (sym e) refl
 
-pub unmarked_is_same : (one two : Image) (maps : List (List MapRow)) (s : State) → ((r : ℕ) → r < 12 → (read s.core r).mark ≡ Plain) → (read s.core 13).mark ≡ Plain → All IsBare s.core.memory.cells → SameState one two maps s s
+pub unmarked_is_same : (one two : Image) (maps : List (List MapRow)) (s : State) → ((r : ℕ) → r < 12 → (read s.core r).mark ≡ Plain) → (read s.core 13).mark ≡ Plain → All IsBare s.core.memory.cells → SameState one two maps 4 s s
 unmarked_is_same one two maps s low stack cells = record {
-  low = (λ r h. plain_is_same one two maps (read s.core r) (low r h));
-  stack = plain_is_same one two maps (read s.core 13) stack;
-  base = refl;
-  size = refl;
-  cells = (λ k h. bare_is_same one two maps (get_or s.core.memory.cells k (bare 0)) (cells k (bare 0) h));
+  memory = record {
+    stack = plain_is_same one two maps (read s.core 13) stack;
+    base = refl;
+    size = refl;
+    cells = (λ k h. bare_is_same one two maps (get_or s.core.memory.cells k (bare 0)) (cells k (bare 0) h));
+  };
+  registers = record {
+    given = (λ r h. plain_is_same one two maps (read s.core r) (low r (omega arith)));
+    kept = (λ r above h. plain_is_same one two maps (read s.core r) (low r h));
+  };
 }

@@ -6,15 +6,15 @@ use Rattle.thumb_instr.specs.Blocks.{it_after}
 use Rattle.thumb_table.specs.States.{Core, State, at}
 use Rattle.thumb_table.specs.declared.faults.FaultKind.{FaultKind}
 use Rattle.thumb_table.specs.Steps.{Fetched, fetch, step_of, move}
-use Rattle.thumb_table.specs.Schedules.{IsLegal, is_in, go_on, run, exit, Returns}
+use Rattle.thumb_table.specs.Schedules.{IsLegal, is_in, go_on, run}
 
 -- of c steps in a row one is executed
 abbrev pub Legal : ℕ → (ℕ → Bool) → Type 0
 Legal c skips = (i : ℕ) → (j : ℕ) × (j < c) × (skips (i + j) ≡ false)
 
 -- what is fetched at an address falls to the next, and makes y of x
-abbrev pub Makes : CodeBytes → Fetched → ℕ → Core → Core → Type 0
-Makes code f a x y = step_of code (Some f) (at a x) ≡ Ok (at (a + f.width) y)
+abbrev pub FallsTo : CodeBytes → Fetched → ℕ → Core → Core → Type 0
+FallsTo code f a x y = step_of code (Some f) (at a x) ≡ Ok (at (a + f.width) y)
 
 -- what is fetched at an address jumps to t from x, and makes y of it
 abbrev pub Leaps : CodeBytes → Fetched → ℕ → Core → ℕ → Core → Type 0
@@ -23,7 +23,7 @@ Leaps code f a x t y = step_of code (Some f) (at a x) ≡ Ok (at t y)
 -- k instructions in a row, from p to q, each of which makes y of x and leaves y
 abbrev pub Group : CodeBytes → ℕ → ℕ → ℕ → Core → Core → Type 0
 Group code zero p q x y = p ≡ q
-Group code (suc k) p q x y = (f : Fetched) × (fetch code p ≡ Some f) × Makes code f p x y × Makes code f p y y × Group code k (p + f.width) q x y
+Group code (suc k) p q x y = (f : Fetched) × (fetch code p ≡ Some f) × FallsTo code f p x y × FallsTo code f p y y × Group code k (p + f.width) q x y
 
 -- k instructions in a row, each of which jumps to t from x
 abbrev pub JumpGroup : CodeBytes → ℕ → ℕ → Core → ℕ → Core → Type 0
@@ -83,10 +83,6 @@ comes_on code skips a b n i s m t en c d = record {
   runs = run_through code skips c.steps d.steps i s m t c.runs d.runs;
 }
 
--- what has come to the exit has returned
-pub returns_of : (code : CodeBytes) (skips : ℕ → Bool) (n : ℕ) (s t : State) → t.pc ≡ exit → Comes code skips n 0 s t → Returns code skips n s t
-returns_of code skips n s t over c = record { steps = c.steps; within = c.within; runs = c.runs; over = over }
-
 -- outside of a block the IT state stays
 pub it_stays : (x : Core) → x.it ≡ 0 → record x { it = it_after x.it } ≡ x
 it_stays x e = ap (λ k. record x { it = k }) (ap it_after e ∙ sym e)
@@ -100,7 +96,7 @@ pub passes : (code : CodeBytes) (f : Fetched) (p : ℕ) (x : Core) → fetch cod
 passes code f p x c e = rw c (ap (λ y. Ok (at (p + f.width) y)) (it_stays x e))
 
 -- either, where an executed one changes nothing
-pub stays : (code : CodeBytes) (f : Fetched) (p : ℕ) (y : Core) (b : Bool) → fetch code p ≡ Some f → Makes code f p y y → y.it ≡ 0 → move code b (at p y) ≡ Ok (at (p + f.width) y)
+pub stays : (code : CodeBytes) (f : Fetched) (p : ℕ) (y : Core) (b : Bool) → fetch code p ≡ Some f → FallsTo code f p y y → y.it ≡ 0 → move code b (at p y) ≡ Ok (at (p + f.width) y)
 stays code f p y true c e it = passes code f p y c it
 stays code f p y false c e it = steps_to code f p y (at (p + f.width) y) c e
 

@@ -1,26 +1,20 @@
 -- Texts are numbers in one way.
-use Rattle.std.proofs.Common.{◌≡◌, ◌≢◌, ◌<◌, ◌≤◌, ◌^◌, inl, inr, ℕ, zero, suc, List, [], ◌∷◌, ◌++◌, length, get_or, Option, Some, None, Ok, Err, Result, lit<, refl, sym, ap, ◌∙◌, subst, arith}
+use Rattle.std.proofs.Common.{◌≡◌, ◌≢◌, ◌<◌, ◌≤◌, ◌^◌, inl, inr, ℕ, List, [], ◌∷◌, ◌++◌, length, get_or, Option, Some, None, Err, lit<, refl, sym, ap, ◌∙◌, subst, arith}
 use Rattle.std.specs.Prelude.{All, MatchOption, codes}
 use Rattle.std.specs.Option.{option_copied}
 use denote.Ref.{Bor}
 use Rattle.std.specs.Fmt.{decimal}
 use Rattle.std.specs.Char.{digit_value}
-use Rattle.std.specs.Str.Parse.{digits_value, AllDigits, ParsesUnsigned, IsNumeral, without_leading_plus}
+use Rattle.std.specs.Str.Parse.{digits_value, AllDigits, ParsesUnsigned, IsNumeral}
 use Rattle.std.proofs.Math.Nat.{pow-le-pow_right}
 use Rattle.std.proofs.lemmas.Bool.Decides.{nat_tests}
-use Rattle.std.proofs.lemmas.Fmt.{decimal_digit, decimal_injective, decimal-digits_value, first_decimal, parse-decimal}
+use Rattle.std.proofs.lemmas.Fmt.{decimal_injective}
 use Rattle.std.proofs.lemmas.Int.Digits.{digits_value-lt}
 use Rattle.std.proofs.lemmas.List.Elements.{All-head, All-tail}
-use Rattle.std.proofs.lemmas.Str.Parse.{IsNumeralModel, numerals_by_value, tells_digits, without_leading_plus_none}
+use Rattle.std.proofs.lemmas.Str.Parse.{without_leading_plus_none}
 use Rattle.guard_cli.specs.Words.{IsHexDigit, IsHexadecimal, IsNumber, IsNumberOf}
-use Rattle.guard_cli.specs.Arranged.{IsPlain}
-
--- a decimal begins with no zero, unless it is one
-pub decimal_is_plain : (n : ℕ) → n < 2 ^ 64 → IsPlain (decimal n)
-decimal_is_plain zero small = subst IsPlain (sym (decimal_digit 0 (omega arith))) (record { no_plus = λ e. absurd (omega arith); no_zero = λ e. refl })
-decimal_is_plain (suc n) small =
-    let first = first_decimal (suc n) (omega arith) small in
-    record { no_plus = λ e. absurd (omega arith); no_zero = λ e. absurd (omega arith) }
+use Rattle.skip_machine.specs.Decimals.{IsPlain}
+use Rattle.skip_machine.proofs.DecimalTexts.{decimal_is_plain}
 
 plain_is_no_prefix : (digits : List ℕ) → IsPlain (codes "0x" ++ digits) → ⊥
 plain_is_no_prefix digits plain = let one = plain.no_zero refl in absurd (omega arith)
@@ -44,27 +38,6 @@ same_number text m n (inl a) (inl b) = decimal_injective m n (omega (arith, a.0)
 same_number text m n (inl a) (inr b) = absurd (decimal_is_no_hexadecimal text m n (omega (arith, a.0)) a.1 b)
 same_number text m n (inr a) (inl b) = absurd (decimal_is_no_hexadecimal text n m (omega (arith, b.0)) b.1 a)
 same_number text m n (inr a) (inr b) = same_hexadecimal text m n a b
-
--- a text that is not plain is no decimal
-pub only_plain : (text : List ℕ) → (IsPlain text → ⊥) → (n : ℕ) → n < 2 ^ 64 → text ≡ decimal n → ⊥
-only_plain text none n small e = none (subst IsPlain (sym e) (decimal_is_plain n small))
-
-digits_model : IsNumeralModel (AllDigits 10) (digits_value 10)
-digits_model = numerals_by_value (AllDigits 10) tells_digits
-
--- what a plain text is read as
-pub plain_is_read : (text : List ℕ) (n : ℕ) → IsPlain text → IsNumeral 10 (without_leading_plus text) × (digits_value 10 (without_leading_plus text) < 2 ^ 64) → n ≡ digits_value 10 (without_leading_plus text) → text ≡ decimal n
-plain_is_read text n plain reads is =
-    let bare = without_leading_plus_none text plain.no_plus in
-    let numeral : IsNumeral 10 text = subst (IsNumeral 10) bare reads.0 in
-    let small : digits_value 10 text < 2 ^ 64 = subst (λ t. digits_value 10 t < 2 ^ 64) bare reads.1 in
-    let value : n ≡ digits_value 10 text = is ∙ ap (λ t. digits_value 10 t) bare in
-    sym (decimal-digits_value digits_model text numeral.1 numeral.0 plain.no_zero small) ∙ ap decimal (sym value)
-
-pub decimal_is_read : {E : Type 0} (text : List ℕ) (e : E) (r : Result ℕ E) → r ≡ Err e → ParsesUnsigned 64 10 text r → (n : ℕ) → n < 2 ^ 64 → text ≡ decimal n → ⊥
-decimal_is_read text e r is parses n small written =
-    let read : r ≡ Ok n = parse-decimal 64 n text r small small written parses in
-    absurd (cc (read, is))
 
 -- hexadecimal digits
 digit_fits : (c : ℕ) → IsHexDigit c → digit_value c < 16

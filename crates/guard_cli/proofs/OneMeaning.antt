@@ -13,8 +13,8 @@ use Rattle.guard_cli.specs.declared.settings.Schedule.TheVariants.{Listed, Drawn
 use Rattle.guard_cli.specs.Words.{Pair, names_of, IsHarden, IsNumberOf, IsPlacedBy, LinkWords, IsLink, Skips, listed, drawn, AreSkips, RunWords, IsRunBy, IsRun, IsList, Setting, same_option, value_of, AreArranged}
 use Rattle.guard_cli.specs.Meanings.{harden, link, run, list, IsCommand}
 use Rattle.guard_cli.specs.Arranged.{value_in, AreOptions, IsPlacing, IsSaid, IsSchedule}
+use Rattle.skip_machine.proofs.PlanSteps.{same_plan}
 use Rattle.guard_cli.proofs.NumberTexts.{same_number}
-use Rattle.guard_cli.proofs.PlanSteps.{same_plan}
 use Rattle.guard_cli.proofs.Arrangements.{absent, same_arrangement}
 
 abbrev IsPlacingSetting : Setting → Type 0
@@ -181,7 +181,7 @@ same_skips : (skip seed : Option (List ℕ)) (a b : Skips) → AreSkips skip see
 same_skips None None (listed s) (listed t) h k = ap (λ l. listed l) (h ∙ sym k)
 same_skips None None (listed s) (drawn n) h k = absurd k
 same_skips None None (drawn n) b h k = absurd h
-same_skips (Some text) None (listed s) (listed t) h k = ap (λ l. listed l) (same_plan text s t h k)
+same_skips (Some text) None (listed s) (listed t) h k = ap (λ l. listed l) (same_plan 2 text s t h k)
 same_skips (Some text) None (listed s) (drawn n) h k = absurd k
 same_skips (Some text) None (drawn n) b h k = absurd h
 same_skips None (Some seed) (drawn m) (drawn n) h k = ap (λ l. drawn l) (same_number seed m n h k)

@@ -2,19 +2,15 @@
 use Rattle.std.proofs.Common.{◌≡◌, ◌≤◌, ◌<◌, ◌⊎◌, ℕ, suc, ◌+◌, List, [], ◌∷◌, length, map, inl, inr, refl, sym, ap, subst, ◌∙◌, arith}
 use Rattle.std.specs.Prelude.{Contains}
 use Rattle.std.specs.List.Sorted.{IsStrictlyIncreasing}
-use Rattle.std.proofs.lemmas.List.{length-map}
 use Rattle.std.proofs.lemmas.List.Kept.{AllPairs-from_increasing}
-use Rattle.elf_model.specs.declared.refusals.Refusal.{Refusal}
 use Rattle.elf_model.specs.Objects.{ObjectParts}
 use Rattle.elf_model.specs.Canonical.{round_up}
-use Rattle.mark_word.specs.Words.{bare}
 use Rattle.thumb_table.specs.declared.placements.Placement.{Placement}
-use Rattle.thumb_table.specs.declared.parts.PlaceMark.{PlaceMark}
-use Rattle.thumb_table.specs.Parts.{Memory, Image}
-use Rattle.thumb_table.specs.Images.{IsImage, CanLink, data_bytes_of}
+use Rattle.thumb_table.specs.Parts.{Image}
+use Rattle.thumb_table.specs.Layouts.{data_bytes_of}
+use Rattle.thumb_table.specs.Images.{IsImage}
+use Rattle.thumb_table.proofs.PlainImages.{ArePlain, has_room, plain_image}
 use Rattle.skip_machine.specs.Machines.{CanRun}
-use Rattle.flat_link.specs.Refusals.{LinkFault, StandsBefore}
-use Rattle.flat_link.specs.Refusals.LinkFault.{defined_twice, long_code, long_data, high_end}
 use Rattle.elf_model.proofs.Elements.{contains_cases, contains_here, contains_later, contains_none}
 
 -- the first of rising numbers is below the others
@@ -49,8 +45,10 @@ same_rising (x ∷ xs) (y ∷ ys) rx ry to back =
     later : (z : ℕ) (zs : List ℕ) (a : ℕ) {w : ℕ} → w < a → z ≡ w → Contains (z ∷ zs) a → Contains zs a
     later z zs a l e c = elim (contains_cases z zs a c) [ inl s ↦ absurd (omega arith) | inr r ↦ r ]
 
-pub same_image : (objects : List ObjectParts) (at : Placement) (a b : Image) → IsImage objects at a → IsImage objects at b → a ≡ b
-same_image objects at a b x y =
+pub same_image : (objects : List ObjectParts) (at : Placement) → ArePlain objects → (a b : Image) → IsImage objects at a → IsImage objects at b → a ≡ b
+same_image objects at plain a b is its =
+    let x = plain_image objects at plain a is in
+    let y = plain_image objects at plain b its in
     let base : a.code.base ≡ b.code.base = x.code_base ∙ sym y.code_base in
     let bytes : a.code.bytes ≡ b.code.bytes = x.code_bytes ∙ sym y.code_bytes in
     let marks : a.code.marks ≡ b.code.marks = x.marks ∙ sym y.marks in
@@ -63,22 +61,11 @@ same_image objects at a b x y =
     let code : a.code ≡ b.code = λ i. record { base = base i; bytes = bytes i; marks = marks i; stops = stops i } in
     λ i. record { code = code i; memory = memory i; room = room i; parts = parts i; entries = entries i }
 
--- Nothing stands in the way of objects that have an image.
-pub no_link_fault : (objects : List ObjectParts) (at : Placement) (r : Refusal) (file section : ℕ) → CanLink objects at → LinkFault objects at r file section → ⊥
-no_link_fault objects at r file section can (defined_twice d e x y same before) = go before
-  where
-    go : StandsBefore d e → ⊥
-    go (inl l) = let o = (can.once d e x y same).0 in omega arith
-    go (inr (eq, l)) = let o = (can.once d e x y same).1 in omega arith
-no_link_fault objects at r file section can (long_code h) = let l = can.code_fits in omega arith
-no_link_fault objects at r file section can (long_data h) = let l = can.data_fits in omega arith
-no_link_fault objects at r file section can (high_end h) = let l = can.end_fits in omega arith
-
 -- An image's code fits its room.
 pub code_in_room : (objects : List ObjectParts) (at : Placement) (image : Image) → IsImage objects at image → length image.code.bytes ≤ image.room
 code_in_room objects at image is =
-    let a = ap length is.code_bytes in
-    let l = is.can.code_fits in
+    let a = is.code.size in
+    let l = (has_room objects at is.can).code in
     let r = is.room in
     omega arith
 
@@ -86,13 +73,13 @@ code_in_room objects at image is =
 pub can_run : (objects : List ObjectParts) (at : Placement) (image : Image) → IsImage objects at image → CanRun image at.stack
 can_run objects at image is =
     let bytes = data_bytes_of objects at in
-    let base : image.memory.base ≡ at.base + at.room = ap (λ (m : Memory). m.base) is.memory in
-    let size : length image.memory.cells ≡ length bytes = ap (λ (m : Memory). length m.cells) is.memory ∙ length-map bytes bare in
+    let base : image.memory.base ≡ at.base + at.room = is.memory.base in
+    let size : length image.memory.cells ≡ length bytes = is.memory.size in
     let p = is.placement in
     let c = is.code_base in
     let r = is.room in
-    let fits = is.can.data_fits in
-    let ends = is.can.end_fits in
+    let fits = (has_room objects at is.can).memory in
+    let ends = (has_room objects at is.can).last in
     record {
       base = omega arith;
       base_even = let e = p.base_even in let f = p.room_even in omega arith;
@@ -101,6 +88,6 @@ can_run objects at image is =
       stack_low = p.stack_low;
       data_fits = subst (λ n. round_up n 8 + at.stack ≤ 16777216) (sym size) fits;
       end_fits = omega arith;
-      marks_rise = subst (λ (ms : List PlaceMark). IsStrictlyIncreasing (map (λ m. m.at) ms)) (sym is.marks) (λ k l. absurd (omega arith));
+      marks_rise = is.marks.rise;
       stops_rise = is.stops_rise;
     }

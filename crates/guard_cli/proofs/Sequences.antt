@@ -1,11 +1,11 @@
 -- Sequences of groups, and the one end of a run.
-use Rattle.std.proofs.Common.{◌≡◌, ℕ, zero, suc, ◌+◌, ◌*◌, Bool, true, false, List, [], ◌∷◌, ◌++◌, length, Some, None, Ok, Err, refl, ap, ◌∙◌, subst, arith}
+use Rattle.std.proofs.Common.{◌≡◌, ◌≢◌, ℕ, zero, suc, ◌+◌, ◌-◌, ◌*◌, Bool, true, false, List, [], ◌∷◌, ◌++◌, length, Some, None, Ok, Err, refl, sym, ap, ◌∙◌, subst, arith}
 use Rattle.thumb_table.specs.Parts.{CodeBytes}
 use Rattle.thumb_table.specs.States.{Core, State, at}
 use Rattle.thumb_table.specs.declared.faults.FaultKind.TheVariants.{BadFetch}
 use Rattle.thumb_table.specs.Steps.{Fetched, fetch, move}
-use Rattle.thumb_table.specs.Schedules.{go_on, run, exit}
-use Rattle.guard_cli.proofs.Groups.{Legal, Makes, Group, go_on_ok, run_on, group}
+use Rattle.thumb_table.specs.Schedules.{go_on, run, exit, Returns}
+use Rattle.guard_cli.proofs.Groups.{Legal, FallsTo, Group, go_on_ok, run_on, group}
 
 -- the instructions stand in the code from p to q
 abbrev pub Stands : CodeBytes → List Fetched → ℕ → ℕ → Type 0
@@ -24,8 +24,8 @@ copied c (g ∷ gs) = times c g (copied c gs)
 
 -- f makes m of x, wherever it stands, and a second time changes nothing
 pub record Settles (code : CodeBytes) (f : Fetched) (x m : Core) : Type 0 where
-  pub makes : (a : ℕ) → Makes code f a x m
-  pub keeps : (a : ℕ) → Makes code f a m m
+  pub makes : (a : ℕ) → FallsTo code f a x m
+  pub keeps : (a : ℕ) → FallsTo code f a m m
   pub clear : m.it ≡ 0
 
 -- one instruction after another makes y of x, and each may be executed again at once
@@ -70,6 +70,22 @@ no_further code skips n i s t u none over e r =
     let lost : fetch code s.pc ≡ None = ap (λ (v : State). fetch code v.pc) e ∙ ap (fetch code) over ∙ none in
     let fault = ap (λ m. go_on m (run code skips n (suc i))) (stuck code (skips i) s lost) in
     absurd (cc (fault, r))
+
+-- A run from elsewhere to the exit is a call that returns, where no code lies there.
+pub returns_of : (code : CodeBytes) (skips : ℕ → Bool) (n i : ℕ) (s t : State) → fetch code exit ≡ None → s.pc ≢ exit → t.pc ≡ exit → run code skips n i s ≡ Ok t → Returns code skips n i s t
+returns_of code skips zero i s t none away over e =
+    let same : s ≡ t = cc in
+    absurd (away (ap (λ (v : State). v.pc) same ∙ over))
+returns_of code skips (suc n) i s t none away over e = record {
+  some = omega arith;
+  goes = record {
+    runs = e;
+    on = λ j u some few r left.
+        let k : j + suc (n - j) ≡ suc n = omega arith in
+        no_further code skips (n - j) (i + j) u u t none left refl (sym (run_on code skips j (suc (n - j)) (suc n) i (i + j) s u k refl r) ∙ e);
+  };
+  over = over;
+}
 
 -- A call ends once: where no code lies at the exit, two runs to it from a state take the same steps.
 pub ends_once : (code : CodeBytes) (skips : ℕ → Bool) (m n i : ℕ) (s t u : State) → fetch code exit ≡ None → t.pc ≡ exit → u.pc ≡ exit → run code skips m i s ≡ Ok t → run code skips n i s ≡ Ok u → (m ≡ n) × (t ≡ u)

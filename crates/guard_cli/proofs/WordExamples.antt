@@ -5,11 +5,11 @@ use Rattle.std.proofs.lemmas.Fmt.{decimal_digit, decimal_step}
 use Rattle.std.proofs.lemmas.List.Elements.{All-nil, All-cons}
 use Rattle.std.proofs.lemmas.List.Quantifiers.{all_pairs_push}
 use Rattle.skip_machine.specs.Plans.{IsPlanText}
-use Rattle.thumb_table.specs.Images.{IsPlacement}
+use Rattle.thumb_table.specs.Layouts.{IsPlacement}
 use Rattle.guard_cli.specs.declared.options.OptionName.TheVariants.{Base, Room, Entry, Steps, Skip}
 use Rattle.guard_cli.specs.Words.{IsFileName, IsHexDigit, IsNumber, Setting, value_of, IsLink, listed, IsRun}
 use Rattle.guard_cli.proofs.Arrangements.{AreTwo, HasValue, absent}
-use Rattle.guard_cli.proofs.PlanSteps.{legal_of}
+use Rattle.skip_machine.proofs.Paces.{at_first, legal_of}
 
 nought : IsHexDigit 48
 nought = inl (lit≤ tt, lit≤ tt)
@@ -89,7 +89,7 @@ a_plan : IsPlanText 2 (codes "0,2") (0 ∷ 2 ∷ [])
 a_plan = record {
   reads = rw (decimal_digit 0 (lit< tt), decimal_digit 2 (lit< tt)) refl;
   small = All-cons (λ n. n < 2 ^ 63) 0 (2 ∷ []) (lit< tt) (All-cons (λ n. n < 2 ^ 63) 2 [] (lit< tt) (All-nil (λ n. n < 2 ^ 63)));
-  legal = legal_of 0 (0 ∷ 2 ∷ []) (lit≤ tt, lit< tt, (lit≤ tt, lit< tt, tt));
+  legal = legal_of 2 (lit≤ tt) at_first (0 ∷ 2 ∷ []) (lit≤ tt, lit< tt, lit< tt, (lit≤ tt, lit< tt, lit< tt, tt));
 }
 
 -- run --base 0x8000 --room=64 --entry f --steps 9 --skip=0,2 b.o

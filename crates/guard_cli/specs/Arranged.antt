@@ -1,6 +1,5 @@
 -- What is read of words with options.
-use Rattle.std.specs.Prelude.{◌≡◌, ◌≢◌, ◌<◌, ◌≤◌, ◌^◌, ◌++◌, ℕ, List, Option, Some, None, length, slice_index}
-use Rattle.std.specs.Fmt.{decimal}
+use Rattle.std.specs.Prelude.{◌≡◌, ◌≤◌, ◌++◌, ℕ, List, Option, Some, None}
 use Rattle.std.specs.Option.{option_copied}
 use Rattle.skip_machine.specs.Plans.{IsPlanText}
 use Rattle.guard_cli.specs.declared.options.OptionName.{OptionName}
@@ -52,14 +51,3 @@ pub record IsSaid (value : OptionName → Option (List ℕ)) (o : Said) : Type 0
   pub steps : IsNumberOf (value Steps) (Some o.steps)
   pub some_steps : 1 ≤ o.steps
   pub few_steps : o.steps ≤ 10000000
-
--- a text that begins neither with a plus nor with a zero before other digits
-pub record IsPlain (text : List ℕ) : Type 0 where
-  pub no_plus : slice_index text 0 ≢ 43
-  pub no_zero : slice_index text 0 ≡ 48 → length text ≡ 1
-
--- a step of a plan that comes no earlier than another one
-pub record IsStep (least : ℕ) (text : List ℕ) (n : ℕ) : Type 0 where
-  pub is : text ≡ decimal n
-  pub small : n < 2 ^ 63
-  pub late : least ≤ n

@@ -5,8 +5,10 @@ use Rattle.elf_model.specs.declared.objects.MapRow.{MapRow}
 use Rattle.elf_model.specs.Objects.{ObjectParts, is_code}
 use Rattle.elf_model.specs.Maps.{HasMap}
 use Rattle.thumb_table.specs.States.{State}
-use Rattle.thumb_table.specs.Schedules.{IsLegal, Returns, OrdinaryRun, is_in}
-use Rattle.thumb_table.specs.Images.{IsImage, code_bytes_of, entry_of, start}
+use Rattle.thumb_table.specs.Schedules.{IsLegal, Returns, ReturnsWithin, OrdinaryRun, is_in}
+use Rattle.thumb_table.specs.Layouts.{code_bytes_of}
+use Rattle.thumb_table.specs.Images.{IsImage, entry_of}
+use Rattle.thumb_table.specs.Calls.{start}
 use Rattle.thumb_table.specs.Parts.{Image}
 use Rattle.thumb_table.specs.declared.placements.Placement.{Placement}
 use Rattle.guard_cli.specs.AddressMaps.{TakesEntry, SameState}
@@ -30,12 +32,12 @@ pub record AreArguments (args : List ℕ) : Type 0 where
   pub few : length args ≤ 4
   pub each : All (λ a. a < 2 ^ 32) args
 
--- The hardened call ends within F times the steps of the plain one, whatever is skipped, so long as no two
--- steps in a row are, and the states at the end are the same up to code addresses.
-abbrev pub EndsAlike : Image → Image → List (List MapRow) → ℕ → ℕ → State → State → State → Type 0
-EndsAlike plain hard maps F n begun ended hard_begun =
-    (schedule : List ℕ) → IsLegal 2 schedule →
-    (hard_ended : State) × Returns hard.code (is_in schedule) (F * n) hard_begun hard_ended × SameState plain hard maps ended hard_ended
+-- Under every legal schedule the hardened call returns within so many steps, and the state at the end is the
+-- plain one up to code addresses.
+abbrev pub EndsAlike : Image → Image → List (List MapRow) → (List ℕ → Type 0) → ℕ → ℕ → State → State → Type 0
+EndsAlike plain hard maps legal results most ended hard_begun =
+    (schedule : List ℕ) → legal schedule →
+    (hard_ended : State) × ReturnsWithin hard.code (is_in schedule) most 0 hard_begun hard_ended × SameState plain hard maps results ended hard_ended
 
 -- Hardened(ins, outs, F): outs are ins, hardened, and no unit of code grows to more than F instructions.
 pub record Hardened (ins outs : List ObjectParts) (F : ℕ) : Type 0 where
@@ -48,10 +50,11 @@ pub record Hardened (ins outs : List ObjectParts) (F : ℕ) : Type 0 where
   -- Where the inputs have an image the outputs have one, unless their code is longer than the room.
   pub linked : (at : Placement) (plain : Image) → IsImage ins at plain →
       ((hard : Image) × IsImage outs at hard) ⊎ (at.room < length (code_bytes_of outs at))
-  -- Calls that return by ordinary steps return alike under every schedule.
+  -- Calls that return by ordinary steps return alike, within F times the steps, whatever is skipped, so long as
+  -- no two steps in a row are; r0 to r11, sp and memory are compared.
   pub alike : (at : Placement) (plain hard : Image) → IsImage ins at plain → IsImage outs at hard →
       (name args : List ℕ) → AreArguments args → (entry : ℕ) → entry_of plain.entries name ≡ Some entry →
-      (n : ℕ) (ended : State) → (r : Returns plain.code (λ i. false) n (start plain at.stack entry args) ended) →
-      OrdinaryRun plain.code r.steps (start plain at.stack entry args) →
+      (n : ℕ) (ended : State) → Returns plain.code (λ i. false) n 0 (start plain at.stack entry args) ended →
+      OrdinaryRun plain.code (λ i. false) n 0 (start plain at.stack entry args) →
       (hard_entry : ℕ) × (entry_of hard.entries name ≡ Some hard_entry) × TakesEntry plain hard maps entry hard_entry
-      × EndsAlike plain hard maps F n (start plain at.stack entry args) ended (start hard at.stack hard_entry args)
+      × EndsAlike plain hard maps (IsLegal 2) 4 (F * n) ended (start hard at.stack hard_entry args)

@@ -8,7 +8,7 @@ use Rattle.elf_model.specs.Objects.{ObjectParts, is_code}
 use Rattle.thumb_table.specs.declared.placements.Placement.{Placement}
 use Rattle.thumb_table.specs.Parts.{Image}
 use Rattle.thumb_table.specs.Images.{IsImage, is_data, image_bytes}
-use Rattle.flat_link.specs.Refusals.{IsLinkRefusal}
+use Rattle.thumb_table.specs.LinkFaults.{IsLinkRefusal}
 use Rattle.guard_cli.specs.Words.{Pair}
 use Rattle.guard_cli.specs.Inputs.{IsTaken, IsInputRefusal}
 use Rattle.guard_cli.specs.Linkable.{IsLinkable}

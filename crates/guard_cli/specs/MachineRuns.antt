@@ -6,14 +6,14 @@ use Rattle.elf_model.specs.declared.refusals.TheConstants.Limit.{ANY}
 use Rattle.elf_model.specs.Objects.{ObjectParts}
 use Rattle.thumb_table.specs.declared.placements.Placement.{Placement}
 use Rattle.thumb_table.specs.declared.faults.FaultKind.{FaultKind}
-use Rattle.thumb_table.specs.Parts.{CodeBytes, Image}
+use Rattle.thumb_table.specs.Parts.{Image}
 use Rattle.thumb_table.specs.States.{State, read}
-use Rattle.thumb_table.specs.Steps.{move}
-use Rattle.thumb_table.specs.Schedules.{run, exit, is_in}
-use Rattle.thumb_table.specs.Images.{IsImage, entry_of, start}
+use Rattle.thumb_table.specs.Schedules.{is_in, ReturnsWithin, OrdinaryRun}
+use Rattle.thumb_table.specs.Images.{IsImage, entry_of}
+use Rattle.thumb_table.specs.Calls.{start}
 use Rattle.skip_machine.specs.declared.machines.Outcome.{Outcome}
 use Rattle.skip_machine.specs.declared.machines.Outcome.TheVariants.{Returned, Fault, Unfinished}
-use Rattle.skip_machine.specs.Machines.{OrdinarySteps}
+use Rattle.skip_machine.specs.Runs.{RunEnds}
 use Rattle.std.specs.Option.{option_to_list}
 use Rattle.guard_cli.specs.FirstForm.{at_start}
 use Rattle.guard_cli.specs.Words.{RunWords}
@@ -41,34 +41,6 @@ HasNoEntry c file = (o : ObjectParts) × (image : Image) × IsOf file o × IsIma
 abbrev pub IsRunRefusal : Call → List ℕ → Spot → Type 0
 IsRunRefusal c file spot = IsLinkInputRefusal c.at file spot ⊎ ((spot ≡ at_start NoEntry) × HasNoEntry c file)
 
--- n steps are made without a fault, and the call has not returned before the last of them
-pub record Goes (code : CodeBytes) (schedule : List ℕ) (n : ℕ) (s t : State) : Type 0 where
-  pub runs : run code (is_in schedule) n 0 s ≡ Ok t
-  pub on : (j : ℕ) (u : State) → 0 < j → j < n → run code (is_in schedule) j 0 s ≡ Ok u → u.pc ≢ exit
-
--- The call has returned after n steps.
-pub record Comes (code : CodeBytes) (schedule : List ℕ) (n : ℕ) (s t : State) : Type 0 where
-  pub some : 0 < n
-  pub goes : Goes code schedule n s t
-  pub over : t.pc ≡ exit
-
--- The step behind n steps faults.
-pub record Breaks (code : CodeBytes) (schedule : List ℕ) (n : ℕ) (s t : State) (kind : FaultKind) : Type 0 where
-  pub goes : Goes code schedule n s t
-  pub still : 0 < n → t.pc ≢ exit
-  pub faults : move code (is_in schedule n) t ≡ Err kind
-
--- n steps are made, and the call has not returned.
-pub record Lasts (code : CodeBytes) (schedule : List ℕ) (n : ℕ) (s t : State) : Type 0 where
-  pub goes : Goes code schedule n s t
-  pub still : 0 < n → t.pc ≢ exit
-
--- how a run of so many steps at most ends: after n of them, in the state t
-abbrev pub Stops : CodeBytes → List ℕ → ℕ → State → Outcome → ℕ → State → Type 0
-Stops code schedule most s Returned n t = (n ≤ most) × Comes code schedule n s t
-Stops code schedule most s (Fault kind pc) n t = (n < most) × Breaks code schedule n s t kind × (pc ≡ t.pc)
-Stops code schedule most s Unfinished n t = (n ≡ most) × Lasts code schedule n s t
-
 -- the image of the input's object, and where the call starts
 pub record IsCallOf (c : Call) (file : List ℕ) (image : Image) (s : State) : Type 0 where
   pub object : ObjectParts
@@ -83,8 +55,8 @@ pub record IsRunOf (c : Call) (file : List ℕ) (outcome : Outcome) (n : ℕ) (t
   pub image : Image
   pub begun : State
   pub call : IsCallOf c file image begun
-  pub stops : Stops image.code c.schedule c.steps begun outcome n t
-  pub ordinary_is : (ordinary ≡ true) ↔ OrdinarySteps image.code (is_in c.schedule) n 0 begun
+  pub ends : RunEnds image.code (is_in c.schedule) c.steps 0 begun outcome n t
+  pub ordinary_is : (ordinary ≡ true) ↔ OrdinaryRun image.code (is_in c.schedule) n 0 begun
 
 -- what is said of a run: how it ended, after how many steps, with which r0
 abbrev pub run_line : Outcome → ℕ → ℕ → Bool → List ℕ
@@ -104,7 +76,7 @@ pub record HasRun (c : Call) (file : List ℕ) (outcome : Outcome) (line : List 
 abbrev pub CanReturn : Call → List ℕ → Type 0
 CanReturn c file =
     (o : ObjectParts) × (image : Image) × IsOf file o × IsImage (o ∷ []) c.at image × (entry : ℕ) × (entry_of image.entries c.entry ≡ Some entry)
-    × (n : ℕ) × (t : State) × (n ≤ c.steps) × Comes image.code c.schedule n (start image c.at.stack entry c.arguments) t
+    × (t : State) × ReturnsWithin image.code (is_in c.schedule) c.steps 0 (start image c.at.stack entry c.arguments) t
 
 -- the work of `run` with one input and the steps that are skipped; no file is written
 abbrev pub run_work : Call → Work

@@ -4,11 +4,11 @@ use Rattle.std.specs.Option.{option_to_list}
 use Rattle.elf_model.specs.declared.refusals.TheConstants.Limit.{INPUT, ANY}
 use Rattle.thumb_table.specs.Parts.{Image}
 use Rattle.thumb_table.specs.States.{State, read}
-use Rattle.thumb_table.specs.Schedules.{is_in}
-use Rattle.thumb_table.specs.Images.{IsPlacement}
+use Rattle.thumb_table.specs.Schedules.{is_in, OrdinaryRun}
+use Rattle.thumb_table.specs.Layouts.{IsPlacement}
 use Rattle.skip_machine.specs.declared.machines.Outcome.{Outcome}
 use Rattle.skip_machine.specs.declared.machines.Outcome.TheVariants.{Returned}
-use Rattle.skip_machine.specs.Machines.{OrdinarySteps}
+use Rattle.skip_machine.specs.Runs.{RunEnds}
 use Rattle.guard_cli.specs.declared.endings.Ending.{Ending}
 use Rattle.guard_cli.specs.declared.endings.Ending.TheVariants.{Done, ReadFault, WriteFault, PrintFault, NoMemory, Stopped}
 use Rattle.guard_cli.specs.declared.tasks.LinkCommand.{LinkCommand}
@@ -24,7 +24,7 @@ use Rattle.guard_cli.specs.Texts.{Tally, no_memory_line, read_fault_line}
 use Rattle.guard_cli.specs.Moments.{Files, Screen, Untouched, IsPut, IsCutOff, IsToldOf}
 use Rattle.guard_cli.specs.Works.{Save, Work}
 use Rattle.guard_cli.specs.Endings.{FinishesAs, IsUnsaved, IsPartlyDone}
-use Rattle.guard_cli.specs.MachineRuns.{Call, Stops}
+use Rattle.guard_cli.specs.MachineRuns.{Call}
 use Rattle.guard_cli.specs.Meanings.{Meaning, harden, link, run, list, work_of}
 use Rattle.guard_io.specs.Outside.{Rose}
 
@@ -149,6 +149,6 @@ stopped_by outcome = Some outcome
 -- how a run on an image ended
 pub record IsFinished (image : Image) (schedule : List ℕ) (most : ℕ) (begun : State) (f : Finished) : Type 0 where
   pub ended : State
-  pub stops : Stops image.code schedule most begun f.outcome f.steps ended
+  pub ends : RunEnds image.code (is_in schedule) most 0 begun f.outcome f.steps ended
   pub r0_is : f.r0 ≡ (read ended.core 0).bits
-  pub ordinary_is : (f.ordinary ≡ true) ↔ OrdinarySteps image.code (is_in schedule) f.steps 0 begun
+  pub ordinary_is : (f.ordinary ≡ true) ↔ OrdinaryRun image.code (is_in schedule) f.steps 0 begun

@@ -5,7 +5,7 @@ use Rattle.std.specs.Int.{IsInRange}
 use Rattle.std.specs.List.{flat_map}
 use Rattle.std.specs.Str.Parse.{digits_value}
 use Rattle.skip_machine.specs.Plans.{IsPlanText}
-use Rattle.thumb_table.specs.Images.{IsPlacement}
+use Rattle.thumb_table.specs.Layouts.{IsPlacement}
 use Rattle.thumb_table.specs.declared.placements.Placement.{Placement}
 use Rattle.guard_cli.specs.declared.options.OptionName.{OptionName}
 use Rattle.guard_cli.specs.declared.options.OptionName.TheVariants.{Base, Room, Entry, Argument, Steps, Skip, Seed}

@@ -17,7 +17,6 @@ mod listings;
 mod loading;
 mod numbers;
 mod options;
-mod plans;
 mod run;
 mod settings;
 mod tasks;

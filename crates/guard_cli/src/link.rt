@@ -2,7 +2,8 @@
 
 ghost use Rattle.std.specs.Prelude.{◌≡◌, ◌≤◌, ◌∷◌, [], length, IfOk, IfErr};
 ghost use Rattle.elf_model.specs.Objects.{is_alloc, is_code};
-ghost use Rattle.thumb_table.specs.Images.{IsPlacement, is_data};
+ghost use Rattle.thumb_table.specs.Layouts.{IsPlacement};
+ghost use Rattle.thumb_table.specs.Images.{is_data};
 ghost use Rattle.guard_cli.specs.Inputs.{IsTurnedDown};
 ghost use Rattle.guard_cli.specs.LinkWork.{bytes_of, IsLinkInputRefusal, link_work};
 ghost use Rattle.guard_cli.specs.Steps.{IsMadeBy};

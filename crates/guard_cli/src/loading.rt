@@ -3,8 +3,9 @@
 ghost use Rattle.std.specs.Prelude.{◌≡◌, ◌≤◌, [], ◌∷◌, length, IfOk, IfErr, OnOk, IsTrue, IsSome};
 ghost use Rattle.guard_io.specs.Outside.{IsLoaded};
 ghost use Rattle.elf_model.specs.Objects.{is_code, is_within};
-ghost use Rattle.thumb_table.specs.Images.{IsPlacement, IsImage, is_data};
-ghost use Rattle.flat_link.specs.Refusals.{IsLinkDenial};
+ghost use Rattle.thumb_table.specs.Layouts.{IsPlacement};
+ghost use Rattle.thumb_table.specs.Images.{IsImage, is_data};
+ghost use Rattle.thumb_table.specs.LinkFaults.{IsLinkDenial};
 ghost use Rattle.guard_cli.specs.FirstForm.{at_start};
 ghost use Rattle.guard_cli.specs.Inputs.{IsTaken, IsInputRefusal, IsTurnedDown};
 ghost use Rattle.guard_cli.specs.Linkable.{IsLinkable};

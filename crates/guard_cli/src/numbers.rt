@@ -1,9 +1,9 @@
 //! Numbers on a command line.
 
 ghost use Rattle.std.specs.Prelude.{◌≡◌, ◌<◌, ◌≤◌, ◌^◌, ◌++◌, ◌↔◌, ℕ, IsTrue, All, MatchOption, codes};
-ghost use Rattle.std.specs.Fmt.{decimal};
 ghost use Rattle.guard_cli.specs.Words.{IsHexDigit, IsHexadecimal, IsNumber};
-ghost use Rattle.guard_cli.specs.Arranged.{IsPlain};
+
+use skip_machine::decimal_of;
 
 /// The number below 2^32 that a text is.
 pub(crate) fn number_of(text: &str) -> Option<u32>
@@ -26,29 +26,6 @@ fn small(n: u64) -> Option<u32>
         Some(n as u32)
     } else {
         None
-    }
-}
-
-/// The number below 2^64 whose decimal a text is.
-pub(crate) fn decimal_of(text: &str) -> Option<u64>
-    ensures { MatchOption result ((n : ℕ) → n < 2 ^ 64 → text.now ≡ decimal n → ⊥) (λ n. text.now ≡ decimal n) }
-{
-    if !is_plain(text.as_bytes()) {
-        return None;
-    }
-    match text.parse::<u64>() {
-        Ok(n) => Some(n),
-        Err(_) => None,
-    }
-}
-
-/// Whether a text begins neither with a sign nor with a zero before other digits.
-fn is_plain(bytes: &[u8]) -> bool
-    ensures { IsTrue result ↔ IsPlain bytes.now }
-{
-    match bytes.first() {
-        None => true,
-        Some(first) => *first != b'+' && (*first != b'0' || bytes.len() == 1),
     }
 }
 

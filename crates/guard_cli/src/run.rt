@@ -1,7 +1,8 @@
 //! What `run` makes of an input: a call of a function of its image.
 
 ghost use Rattle.std.specs.Prelude.{◌≡◌, ◌≤◌, ◌∷◌, [], length, IfOk, IfErr, string_bytes};
-ghost use Rattle.thumb_table.specs.Images.{IsPlacement, start};
+ghost use Rattle.thumb_table.specs.Layouts.{IsPlacement};
+ghost use Rattle.thumb_table.specs.Calls.{start};
 ghost use Rattle.skip_machine.specs.Machines.{CanRun};
 ghost use Rattle.guard_cli.specs.Inputs.{IsTurnedDown};
 ghost use Rattle.guard_cli.specs.MachineRuns.{IsRunRefusal, run_line, run_work};

@@ -2,14 +2,14 @@
 
 ghost use Rattle.std.specs.Prelude.{◌≡◌, ◌⊎◌, ◌↔◌, ◌≤◌, ℕ, List, Option, Some, IsTrue, MatchOption};
 ghost use Rattle.std.specs.Option.{option_copied};
-ghost use Rattle.thumb_table.specs.Images.{IsPlacement};
+ghost use Rattle.thumb_table.specs.Layouts.{IsPlacement};
 ghost use Rattle.thumb_table.specs.declared.placements.Placement.{Placement};
 ghost use Rattle.guard_cli.specs.Words.{IsPlacedBy, IsNumberOf, Skips, AreSkips, RunWords, IsRunBy};
 ghost use Rattle.guard_cli.specs.Arranged.{value_in, IsPlacing, IsSaid, IsSchedule};
 
 use crate::numbers::number_of;
 use crate::options::Options;
-use crate::plans::is_plan;
+use skip_machine::is_plan;
 use thumb_table::Placement;
 
 /// The stack of every command.
@@ -106,7 +106,7 @@ pub(crate) fn schedule_of<'a>(skip: Option<&'a str>, seed: Option<&str>) -> Opti
     match (skip, seed) {
         (None, None) => Some(Schedule::Listed("")),
         (Some(list), None) => {
-            if is_plan(list) {
+            if is_plan(list, 2) {
                 Some(Schedule::Listed(list))
             } else {
                 None

@@ -1,5 +1,5 @@
 -- The spots are the places of faults.
-use Rattle.std.proofs.Common.{◌≡◌, ◌↔◌, ℕ, Bool, true, false, cond, List, [], refl, sym, ap, ◌∙◌, subst, inl, inr, Option, Some, None}
+use Rattle.std.proofs.Common.{◌≡◌, ◌↔◌, ◌<◌, ℕ, length, Bool, true, false, cond, List, [], refl, sym, ap, ◌∙◌, subst, inl, inr, Option, Some, None}
 use Rattle.std.specs.Prelude.{Contains, slice_get}
 use Rattle.std.proofs.lemmas.Bool.{true≢false}
 use Rattle.std.proofs.lemmas.Option.{none-some, same_Some}
@@ -16,15 +16,16 @@ use Rattle.flow_recover.specs.Flows.{FlowParts}
 use Rattle.code_ranges.specs.CodeRanges.{comes_before}
 use Rattle.code_ranges.specs.Spots.{spot_of, IsFirst}
 use Rattle.liveness.specs.declared.boundary.Boundary.{Boundary}
-use Rattle.liveness.specs.Paths.{IsLiveBefore, IsLiveAfter, leaves, boundary_of}
+use Rattle.liveness.specs.Paths.{IsLiveBefore, IsLiveAfter, NamesPoints, leaves, boundary_of}
 use Rattle.liveness.specs.Paths.IsLiveAfter.{at_boundary, before_next}
 use Rattle.liveness.specs.Sets.{LiveParts, has_in, holds_at, holds_after, successors_hold}
 use Rattle.liveness.specs.Sweeps.{AreSound, AreSettled}
 use Rattle.liveness.specs.Faults.{is_unset_at_entry, is_lost_in_call, IsLowestLive, LiveFault, IsLiveRefusal, AreLive}
 use Rattle.liveness.specs.Faults.LiveFault.{at_entry, at_return}
 use Rattle.liveness.specs.Spots.{unset, lost, first_in, spot_at_entry, entry_spot, is_call, first_after, spot_at_call, call_spot, picked, all_spots}
+use Rattle.elf_model.proofs.Elements.{element_at}
 use Rattle.liveness.proofs.Elements.{contains_none, place_of, contains_at, picked_is, picked_has}
-use Rattle.liveness.proofs.LowestFacts.{is_among, Rises, IsFirstMember, first_some, first_of_member, unset_rises, lost_rises, unset_is, lost_is}
+use Rattle.liveness.proofs.LowestFacts.{is_among, Rises, IsFirstMember, first_some, first_none, first_of_member, unset_rises, lost_rises, unset_is, lost_is}
 use Rattle.liveness.proofs.PathFacts.{live_held, successor_leads, leads_successor}
 
 abbrev pub IsFaultSpot : FlowParts → Boundary → Spot → Type 0
@@ -145,6 +146,32 @@ module _ (f : FlowParts) (b : Boundary) (sets : List RegSet) (exact : AreExact f
       let gives : call_spot sets x ≡ Some spot =
       ap (λ (e : Exit). cond (is_call e) (spot_at_call x (first_after sets x.next)) None) call ∙ ap (spot_at_call x) first in
       Contains-append_right (picked (entry_spot f.points sets) f.entries) (picked (call_spot sets) f.points) spot (picked_has (call_spot sets) f.points x spot (contains_at f.points p x at) gives)
+
+-- no fault, and so no such member is live
+module _ (f : FlowParts) (b : Boundary) (l : LiveParts) (are : AreLive f b l) where
+  lowest_of : (among : List ℕ) (test : ℕ → Bool) (p k : ℕ) → Rises among → ((j : ℕ) → is_among among j ≡ test j) → test k ≡ true → IsLiveBefore f b k p → (m : ℕ) × IsLowestLive f b test m p
+  lowest_of among test p k rises agree member live = go (slice_get l.sets p) refl (first_in among (slice_get l.sets p)) refl
+    where
+      held : holds_at l.sets p k ≡ true
+      held = are.whole p k live
+
+      go : (o : Option RegSet) → slice_get l.sets p ≡ o → (i : Option ℕ) → first_in among (slice_get l.sets p) ≡ i → (m : ℕ) × IsLowestLive f b test m p
+      go o at (Some m) first = (m, lowest_live f b l.sets (are.sound, are.whole) among test p m rises agree first)
+      go None at None first = absurd (true≢false (sym held ∙ ap (λ (o : Option RegSet). has_in o k) at))
+      go (Some s) at None first =
+          let none : has s.0 k ≡ false = first_none among s k (ap (first_in among) (sym at) ∙ first) (agree k ∙ member) in
+          absurd (true≢false (sym held ∙ ap (λ (o : Option RegSet). has_in o k) at ∙ none))
+
+  pub entry_dead : NamesPoints f → (p k : ℕ) → Contains f.entries p → is_unset_at_entry k ≡ true → IsLiveBefore f b k p → ⊥
+  entry_dead names p k c member live =
+      let m = lowest_of unset is_unset_at_entry p k unset_rises unset_is member live in
+      let x = element_at f.points p (All-contains (λ e. e < length f.points) f.entries p names.entries c) in
+      are.no_fault (LiveAtEntry m.0) x.0.section x.0.offset (at_entry p m.0 x.0 c x.1 m.1)
+
+  pub return_dead : (p q k : ℕ) (x : Point) → slice_get f.points p ≡ Some x → x.exit ≡ Call → x.next ≡ Some q → is_lost_in_call k ≡ true → IsLiveBefore f b k q → ⊥
+  return_dead p q k x at call next member live =
+      let m = lowest_of lost is_lost_in_call q k lost_rises lost_is member live in
+      are.no_fault (LiveAtReturn m.0) x.section x.offset (at_return p q m.0 x at call next m.1)
 
 pub refusal_is : (f : FlowParts) (b : Boundary) (l : LiveParts) → AreSettled f b l → (spots : List Spot) (spot : Spot) → spots ≡ all_spots f l.sets → IsFirst spots (Some spot) → IsLiveRefusal f b spot
 refusal_is f b l settled spots spot made h =

@@ -11,6 +11,6 @@ mod spots;
 mod sweeps;
 
 pub use boundary::Boundary;
-pub use laws::{points_have_one_live_set, recovered_flows_name_points};
+pub use laws::{points_have_one_live_set, recovered_flows_name_points, unset_members_are_dead};
 pub use liveness::live;
 pub use sets::Live;

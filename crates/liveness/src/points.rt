@@ -54,14 +54,14 @@ pub(crate) fn passes(x: &Point) -> bool
     !leaves(x.exit) || has_condition(x)
 }
 
-/// The set of an exit.
+/// The members of an exit's set.
 pub(crate) fn boundary_of(b: &Boundary, exit: Exit) -> RegSet
     ensures { (k : ℕ) → has result.0 k ≡ boundary_of b.now exit k }
 {
     match exit {
-        Exit::Call => b.call,
-        Exit::Transfer => b.transfer,
-        Exit::Return => b.ret,
+        Exit::Call => b.call.members(),
+        Exit::Transfer => b.transfer.members(),
+        Exit::Return => b.ret.members(),
         Exit::Falls | Exit::Branch(_) | Exit::Stops => RegSet::none(),
     }
 }

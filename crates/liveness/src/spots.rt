@@ -1,13 +1,12 @@
 //! What stands in the way of sets that are settled.
 
 ghost use Rattle.std.specs.Prelude.{◌≡◌, ◌<◌, ◌++◌, IfOk, OnOk, All, Contains, length, slice_get, Some, ℕ};
-ghost use Rattle.elf_model.specs.declared.refusals.Refusal.{Refusal};
-ghost use Rattle.code_ranges.specs.Spots.{spot_of};
 ghost use Rattle.liveness.specs.Paths.{NamesPoints};
 ghost use Rattle.liveness.specs.Spots.{first_member, entry_spot, is_call, first_after, spot_at_call, call_spot, picked, all_spots};
 
 use crate::Live;
 use crate::members::is_member;
+use code_ranges::spot_of;
 use elf_model::{Refusal, Spot};
 use flow_recover::{Exit, Flow, Point};
 use std::alloc::{AllocError, Global};
@@ -31,17 +30,6 @@ fn first_member(set: RegSet, among: &[u8]) -> Option<u8>
     None
 }
 
-fn spot_of(refusal: Refusal, x: &Point) -> Spot
-    ensures { result ≡ spot_of refusal x.now.section x.now.offset }
-{
-    Spot {
-        refusal,
-        file: 0,
-        section: x.section,
-        offset: x.offset,
-    }
-}
-
 /// The lowest member that an entry must not have live.
 fn entry_spot(f: &Flow, sets: &Live, p: u32) -> Option<Spot>
     requires sized { length sets.now.sets ≡ length f.now.points }
@@ -51,7 +39,7 @@ fn entry_spot(f: &Flow, sets: &Live, p: u32) -> Option<Spot>
     let x = f.points()[p as usize];
     match first_member(sets.before(p), &UNSET_AT_ENTRY) {
         None => None,
-        Some(register) => Some(spot_of(Refusal::LiveAtEntry { register }, &x)),
+        Some(register) => Some(spot_of(Refusal::LiveAtEntry { register }, x.section, x.offset)),
     }
 }
 
@@ -81,7 +69,7 @@ fn call_spot(sets: &Live, x: &Point) -> Option<Spot>
     }
     match first_after(sets, x.next) {
         None => None,
-        Some(register) => Some(spot_of(Refusal::LiveAtReturn { register }, x)),
+        Some(register) => Some(spot_of(Refusal::LiveAtReturn { register }, x.section, x.offset)),
     }
 }
 

@@ -57,12 +57,7 @@ pub fn is_half(kind: RelocKind) -> bool
 pub fn place_width(kind: RelocKind) -> u32
     ensures { result ≡ width_of kind }
 {
-    match kind {
-        RelocKind::ThmJump11 => 2,
-        RelocKind::ThmJump8 => 2,
-        RelocKind::Other(n) => if n == 102 || n == 103 { 2 } else { 4 },
-        _ => 4,
-    }
+    kind.width()
 }
 
 /// BL.

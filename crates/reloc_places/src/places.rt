@@ -15,7 +15,7 @@ ghost use Rattle.reloc_places.specs.Tables.{AreStarts, AreWords};
 use crate::addends::addend;
 use crate::instructions::{bytes_of, instr_at, length_at};
 use crate::kinds::{fits_kind, is_jump, is_word};
-use elf_model::{Home, Limit, Object, Reloc, is_code};
+use elf_model::{Home, Limit, Object, Reloc, is_data};
 use std::collections::{BTreeMap, BTreeSet};
 
 /// Whether a section is one of data in memory.
@@ -24,7 +24,7 @@ fn holds_data(o: &Object, section: u32) -> bool
 {
     match o.sections().get(section as usize) {
         None => false,
-        Some(s) => s.flags / 2 % 2 == 1 && !is_code(s),
+        Some(s) => is_data(s),
     }
 }
 

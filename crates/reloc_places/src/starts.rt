@@ -11,7 +11,8 @@ ghost use Rattle.code_ranges.specs.Spans.{place_cmp};
 ghost use Rattle.reloc_places.specs.Tables.{AreStarts, AreWords, AreFunctions};
 
 use crate::instructions::{bytes_of, length_at};
-use code_ranges::{FUNC, Range};
+use code_ranges::Range;
+use elf_model::numbers::FUNC;
 use elf_model::{Home, Limit, Object, Symbol};
 use std::alloc::{AllocError, Global};
 use std::collections::{BTreeMap, BTreeSet};

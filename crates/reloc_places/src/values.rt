@@ -7,7 +7,7 @@ ghost use Rattle.reloc_places.specs.Relocations.{IsRight, addend as addend_of, i
 
 use crate::addends::addend;
 use crate::instructions::bytes_of;
-use code_ranges::FUNC;
+use elf_model::numbers::FUNC;
 use elf_model::{Home, Limit, Object, Reloc, Symbol, is_code};
 
 /// Without bit 0, which a function's value has set.

@@ -1,7 +1,7 @@
 -- Arguments of a call.
 use Rattle.std.proofs.Common.{◌≡◌, ℕ, zero, suc, ◌<◌, ◌≤◌, List, [], ◌∷◌, length, get_or, arith, refl}
 use Rattle.mark_word.specs.Words.{plain}
-use Rattle.thumb_table.specs.Images.{argument}
+use Rattle.thumb_table.specs.Calls.{argument}
 
 pub argument_within : (args : List ℕ) (k d : ℕ) → k < length args → plain (get_or args k d) ≡ argument args k
 argument_within [] k d lt = absurd (omega arith)

@@ -5,5 +5,7 @@ pub mod Walks
 pub mod Further
 pub mod Schedules
 pub mod PlanTexts
-pub mod Calls
 pub mod Moving
+pub mod DecimalTexts
+pub mod Paces
+pub mod PlanSteps

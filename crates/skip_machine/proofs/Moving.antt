@@ -4,7 +4,7 @@ use Rattle.thumb_table.specs.declared.faults.FaultKind.{FaultKind}
 use Rattle.thumb_table.specs.Parts.{CodeBytes}
 use Rattle.thumb_table.specs.States.{State}
 use Rattle.thumb_table.specs.Steps.{Fetched, fetch, IsOrdinary}
-use Rattle.skip_machine.specs.Machines.{OrdinaryStep}
+use Rattle.thumb_table.specs.Schedules.{OrdinaryStep}
 
 pub executed_ordinary : (code : CodeBytes) (skipped : Bool) (f : Fetched) (s : State) (r : Result Bool FaultKind) → fetch code s.pc ≡ Some f → skipped ≡ false →
     IfOk r (λ b. IsTrue b ↔ IsOrdinary code (Some f) s) → IfOk r (λ b. IsTrue b ↔ OrdinaryStep code skipped s)

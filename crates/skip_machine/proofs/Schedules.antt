@@ -1,5 +1,5 @@
 -- Consecutive numbers in a list that rises.
-use Rattle.std.proofs.Common.{◌≡◌, ◌≢◌, ℕ, zero, suc, ◌+◌, ◌-◌, ◌<◌, ◌≤◌, true, List, length, get_or, arith, refl, sym, ap, ◌∙◌, add-zero}
+use Rattle.std.proofs.Common.{◌≡◌, ◌≢◌, ℕ, zero, suc, ◌+◌, ◌-◌, ◌<◌, ◌≤◌, true, List, length, get_or, arith, ap, add-zero}
 use Rattle.std.specs.List.Sorted.{IsStrictlyIncreasing}
 use Rattle.thumb_table.specs.Schedules.{is_in}
 use Rattle.thumb_table.proofs.StopLemmas.{rises}
@@ -40,6 +40,3 @@ spare xs h m never i all =
     let there = place_of xs i first in
     let last = consecutive xs h i there.0 m there.1 there.2 all m (omega arith) in
     never there.0 last.0 (omega (arith, last.1, there.2))
-
-pub crowd : (xs : List ℕ) → IsStrictlyIncreasing xs → (k m : ℕ) → k + m < length xs → get_or xs (k + m) 0 ≡ get_or xs k 0 + m → Spares (m + 1) xs → ⊥
-crowd xs h k m lt e free = free (get_or xs k 0) (crowded xs h k m lt e)

@@ -4,8 +4,7 @@ use Rattle.thumb_table.specs.declared.faults.FaultKind.{FaultKind}
 use Rattle.thumb_table.specs.Parts.{CodeBytes}
 use Rattle.thumb_table.specs.States.{State}
 use Rattle.thumb_table.specs.Steps.{move}
-use Rattle.thumb_table.specs.Schedules.{run, go_on}
-use Rattle.skip_machine.specs.Machines.{OrdinaryStep, OrdinarySteps}
+use Rattle.thumb_table.specs.Schedules.{run, go_on, OrdinaryStep, OrdinaryRun}
 
 -- a run that is made has a first step, and goes on from there
 pub first_step : (r : Result State FaultKind) (go : State → Result State FaultKind) (t : State) → go_on r go ≡ Ok t → (u : State) × (r ≡ Ok u) × (go u ≡ Ok t)
@@ -30,7 +29,7 @@ run_more code skips (suc n) i s t r e m =
 
 -- each step of a run by one more is ordinary where those before are and the last is
 pub ordinary_more : (code : CodeBytes) (skips : ℕ → Bool) (n i : ℕ) (s t : State) → run code skips n i s ≡ Ok t
-    → OrdinarySteps code skips n i s → OrdinaryStep code (skips (i + n)) t → OrdinarySteps code skips (suc n) i s
+    → OrdinaryRun code skips n i s → OrdinaryStep code (skips (i + n)) t → OrdinaryRun code skips (suc n) i s
 ordinary_more code skips zero i s t e before last =
     let same : s ≡ t = cc in
     let k : i + 0 ≡ i = omega arith in
@@ -42,12 +41,12 @@ ordinary_more code skips (suc n) i s t e before last =
       before.0,
       λ next m.
           let same : next ≡ first.0 = cc (first.1) in
-          subst (λ u. OrdinarySteps code skips (suc n) (suc i) u) (sym same)
+          subst (λ u. OrdinaryRun code skips (suc n) (suc i) u) (sym same)
           (ordinary_more code skips n (suc i) first.0 t first.2 (before.1 first.0 first.1) last'),
     )
 
 pub ordinary_less : (code : CodeBytes) (skips : ℕ → Bool) (n i : ℕ) (s t : State) → run code skips n i s ≡ Ok t
-    → OrdinarySteps code skips (suc n) i s → OrdinarySteps code skips n i s × OrdinaryStep code (skips (i + n)) t
+    → OrdinaryRun code skips (suc n) i s → OrdinaryRun code skips n i s × OrdinaryStep code (skips (i + n)) t
 ordinary_less code skips zero i s t e all =
     let same : t ≡ s = cc in
     let k : i + 0 ≡ i = omega arith in
@@ -60,7 +59,7 @@ ordinary_less code skips (suc n) i s t e all =
         all.0,
         λ next m.
             let same : next ≡ first.0 = cc (first.1) in
-            subst (λ u. OrdinarySteps code skips n (suc i) u) (sym same) later.0,
+            subst (λ u. OrdinaryRun code skips n (suc i) u) (sym same) later.0,
       ),
       rw k later.1,
     )

@@ -2,3 +2,5 @@ pub mod Fetches
 pub mod Machines
 pub mod Runs
 pub mod Plans
+pub mod Decimals
+pub mod Paces

@@ -1,13 +1,12 @@
--- A machine, and what its steps and runs do.
-use Rattle.std.specs.Prelude.{◌≡◌, ℕ, zero, suc, ◌+◌, ◌%◌, ◌^◌, ◌<◌, ◌≤◌, Bool, true, false, List, length, map, Some, Result, Ok}
+-- A machine.
+use Rattle.std.specs.Prelude.{◌≡◌, ℕ, ◌+◌, ◌%◌, ◌^◌, ◌<◌, ◌≤◌, Bool, length, map, Some, Result, Ok}
 use Rattle.std.specs.List.Sorted.{IsStrictlyIncreasing}
 use Rattle.elf_model.specs.Canonical.{round_up}
 use Rattle.thumb_table.specs.declared.cores.Core.{Core as Registers}
 use Rattle.thumb_table.specs.Parts.{CodeBytes, Memory, Image}
 use Rattle.thumb_table.specs.States.{State}
-use Rattle.thumb_table.specs.Steps.{Fetched, move, fetch, skip_of, IsOrdinary}
-use Rattle.thumb_table.specs.Images.{run_cells, start_regs, even}
-use Rattle.thumb_table.specs.Views.{state_of}
+use Rattle.thumb_table.specs.Steps.{Fetched, skip_of}
+use Rattle.thumb_table.specs.CoreStates.{state_of}
 
 pub record Machine : Type 0 where
   pub code : CodeBytes
@@ -39,35 +38,6 @@ pub record CanRun (image : Image) (stack : ℕ) : Type 0 where
   pub marks_rise : IsStrictlyIncreasing (map (λ p. p.at) image.code.marks)
   pub stops_rise : IsStrictlyIncreasing image.code.stops
 
--- data, and the stack behind it
-abbrev pub run_memory : Image → ℕ → Memory
-run_memory image stack = record { base = image.memory.base; cells = run_cells image stack }
-
--- where a call starts, over memory as it is
-abbrev pub started : Memory → ℕ → List ℕ → State
-started memory entry args = record {
-  pc = even entry;
-  core = record {
-    regs = start_regs args (memory.base + length memory.cells);
-    n = false;
-    z = false;
-    c = false;
-    v = false;
-    it = 0;
-    memory = memory;
-  };
-}
-
 -- A skipped step makes these registers of those, whatever memory has.
 abbrev pub PassesOver : Fetched → Registers → Registers → Type 0
 PassesOver f s t = (m : Memory) → skip_of (Some f) (state_of s m) ≡ Ok (state_of t m)
-
--- A step from a state is ordinary, where it isn't skipped.
-abbrev pub OrdinaryStep : CodeBytes → Bool → State → Type 0
-OrdinaryStep code skipped s = skipped ≡ false → IsOrdinary code (fetch code s.pc) s
-
--- Each of the n steps from here is ordinary, where it isn't skipped; the first has number i.
-abbrev pub OrdinarySteps : CodeBytes → (ℕ → Bool) → ℕ → ℕ → State → Type 0
-OrdinarySteps code skips zero i s = Unit {0}
-OrdinarySteps code skips (suc n) i s =
-    OrdinaryStep code (skips i) s × ((next : State) → move code (skips i) s ≡ Ok next → OrdinarySteps code skips n (suc i) next)

@@ -1,14 +1,15 @@
 -- What a machine's steps and runs make of it.
 use Rattle.std.specs.Prelude.{◌≡◌, ◌≢◌, ◌↔◌, ℕ, ◌+◌, ◌<◌, ◌≤◌, Bool, true, false, Ok, Err}
 use Rattle.thumb_table.specs.declared.faults.FaultKind.{FaultKind}
+use Rattle.thumb_table.specs.Parts.{CodeBytes}
 use Rattle.thumb_table.specs.States.{State}
 use Rattle.thumb_table.specs.Steps.{move}
-use Rattle.thumb_table.specs.Schedules.{run, exit}
+use Rattle.thumb_table.specs.Schedules.{exit, Returns, Lasts, Breaks, OrdinaryStep, OrdinaryRun}
 use Rattle.skip_machine.specs.declared.machines.Moved.{Moved}
 use Rattle.skip_machine.specs.declared.machines.Moved.TheVariants.{On, Returned as HasReturned}
 use Rattle.skip_machine.specs.declared.machines.Outcome.{Outcome}
 use Rattle.skip_machine.specs.declared.machines.Outcome.TheVariants.{Returned, Fault, Unfinished}
-use Rattle.skip_machine.specs.Machines.{Machine, state, OrdinaryStep, OrdinarySteps}
+use Rattle.skip_machine.specs.Machines.{Machine, state}
 
 -- A step has returned exactly where pc is the exit.
 abbrev pub Leaves : Moved → Machine → Type 0
@@ -28,38 +29,22 @@ pub record Faulted (skipped : Bool) (old new : Machine) (kind : FaultKind) : Typ
   pub faults : move old.code skipped (state old) ≡ Err kind
   pub same : new ≡ record old { running = false }
 
--- A machine made so many steps more, none of which faulted. It has not returned before the last of them.
-pub record Went (skips : ℕ → Bool) (old new : Machine) (n : ℕ) : Type 0 where
-  pub counted : new.steps ≡ old.steps + n
+-- How a run of at most so many steps ends, of which the first has number i: after n of them, in the state t.
+abbrev pub RunEnds : CodeBytes → (ℕ → Bool) → ℕ → ℕ → State → Outcome → ℕ → State → Type 0
+RunEnds code skips most i s Returned n t = (n ≤ most) × Returns code skips n i s t
+RunEnds code skips most i s (Fault kind pc) n t = (n < most) × Breaks code skips n i s t kind × (pc ≡ t.pc)
+RunEnds code skips most i s Unfinished n t = (n ≡ most) × Lasts code skips n i s t
+
+abbrev pub runs_on : Outcome → Bool
+runs_on Returned = false
+runs_on (Fault kind pc) = false
+runs_on Unfinished = true
+
+-- how a machine's run ended: after so many steps more, whether all were ordinary, and whether it runs on
+pub record Ran (skips : ℕ → Bool) (most : ℕ) (old new : Machine) (outcome : Outcome) : Type 0 where
+  pub made : ℕ
+  pub counted : new.steps ≡ old.steps + made
   pub same_code : new.code ≡ old.code
-  pub runs : run old.code skips n old.steps (state old) ≡ Ok (state new)
-  pub not_before : (j : ℕ) (s : State) → 0 < j → j < n → run old.code skips j old.steps (state old) ≡ Ok s → s.pc ≢ exit
-  pub ordinary : (new.ordinary ≡ true) ↔ ((old.ordinary ≡ true) × OrdinarySteps old.code skips n old.steps (state old))
-
--- how a run ends: the call has returned, a step faulted, or all steps were made
-pub record HasEnded (skips : ℕ → Bool) (most : ℕ) (old new : Machine) : Type 0 where
-  pub made : ℕ
-  pub some : 0 < made
-  pub within : made ≤ most
-  pub went : Went skips old new made
-  pub returned : new.core.pc ≡ exit
-  pub stopped : new.running ≡ false
-
-pub record HasFaulted (skips : ℕ → Bool) (most : ℕ) (old new : Machine) (kind : FaultKind) (pc : ℕ) : Type 0 where
-  pub made : ℕ
-  pub within : made < most
-  pub went : Went skips old new made
-  pub not_returned : 0 < made → new.core.pc ≢ exit
-  pub faults : move old.code (skips new.steps) (state new) ≡ Err kind
-  pub place : pc ≡ new.core.pc
-  pub stopped : new.running ≡ false
-
-pub record GoesOn (skips : ℕ → Bool) (most : ℕ) (old new : Machine) : Type 0 where
-  pub went : Went skips old new most
-  pub not_returned : 0 < most → new.core.pc ≢ exit
-  pub runs_on : new.running ≡ true
-
-abbrev pub Ran : (ℕ → Bool) → ℕ → Machine → Machine → Outcome → Type 0
-Ran skips most old new Returned = HasEnded skips most old new
-Ran skips most old new (Fault kind pc) = HasFaulted skips most old new kind pc
-Ran skips most old new Unfinished = GoesOn skips most old new
+  pub ends : RunEnds old.code skips most old.steps (state old) outcome made (state new)
+  pub ordinary : (new.ordinary ≡ true) ↔ ((old.ordinary ≡ true) × OrdinaryRun old.code skips made old.steps (state old))
+  pub running : new.running ≡ runs_on outcome

@@ -1,9 +1,9 @@
 //! The machine.
 
 ghost use Rattle.std.specs.Prelude.{◌≡◌, ◌↔◌, ◌+◌, ◌^◌, ◌<◌, ◌≤◌, true, false, length, IfOk, IfErr};
-ghost use Rattle.thumb_table.specs.Images.{argument, start_regs};
+ghost use Rattle.thumb_table.specs.Calls.{argument, start_regs, run_memory, started};
 ghost use Rattle.thumb_table.specs.Schedules.{is_in};
-ghost use Rattle.skip_machine.specs.Machines.{CanRun, run_memory, started, state};
+ghost use Rattle.skip_machine.specs.Machines.{CanRun, state};
 ghost use Rattle.skip_machine.specs.Runs.{Steps, Faulted, Ran};
 
 use crate::Plan;

@@ -2,9 +2,10 @@
 
 ghost use Rattle.std.specs.Prelude.{◌≡◌, ◌↔◌, ◌+◌, ◌<◌, ◌^◌, IsTrue, OnOk, IfOk, IfErr, length, map};
 ghost use Rattle.thumb_table.specs.Steps.{step_of, skip_of, move, fetch, IsOrdinary};
-ghost use Rattle.thumb_table.specs.Views.{state_of};
+ghost use Rattle.thumb_table.specs.CoreStates.{state_of};
 ghost use Rattle.skip_machine.specs.Fetches.{as_fetched};
-ghost use Rattle.skip_machine.specs.Machines.{IsSound, OrdinaryStep, PassesOver};
+ghost use Rattle.skip_machine.specs.Machines.{IsSound, PassesOver};
+ghost use Rattle.thumb_table.specs.Schedules.{OrdinaryStep};
 
 use crate::fetches::{Fetched, fetch};
 use thumb_decode::decode;

@@ -4,7 +4,7 @@ ghost use Rattle.std.specs.Prelude.{◌≡◌, ◌≤◌, ℕ, List, IfOk};
 ghost use Rattle.thumb_table.specs.Schedules.{is_in};
 ghost use Rattle.skip_machine.specs.Plans.{IsPlanText};
 
-use crate::legal::is_legal;
+use crate::plan_texts::is_plan;
 use crate::texts::numbers;
 use std::alloc::Global;
 use std::marker::Model;
@@ -44,6 +44,9 @@ impl Plan {
         ensures plan { IfOk result (IsPlanText copies text.now) }
         ensures bad { result ≡ Err PlanErr.Bad → (s : List ℕ) → IsPlanText copies text.now s → ⊥ }
     {
+        if !is_plan(text, copies) {
+            return Err(PlanErr::Bad);
+        }
         if text.is_empty() {
             return Ok(Plan {
                 numbers: Vec::new(alloc),
@@ -51,14 +54,8 @@ impl Plan {
         }
         match numbers(alloc, text) {
             Err(_) => Err(PlanErr::NoMemory),
-            Ok(None) => Err(PlanErr::Bad),
-            Ok(Some(numbers)) => {
-                if is_legal(&numbers, copies) {
-                    Ok(Plan { numbers })
-                } else {
-                    Err(PlanErr::Bad)
-                }
-            }
+            Ok(None) => unreachable!(),
+            Ok(Some(numbers)) => Ok(Plan { numbers }),
         }
     }
 

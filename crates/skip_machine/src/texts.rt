@@ -4,22 +4,18 @@ ghost use Rattle.std.specs.Prelude.{◌≡◌, ℕ, List, map, IfOk, MatchOption
 ghost use Rattle.std.specs.Fmt.{decimal};
 ghost use Rattle.skip_machine.specs.Plans.{IsNumber, AreNumbers, parts_of};
 
+use crate::decimals::decimal_of;
 use std::alloc::{AllocError, Global};
 
 /// The number below 2^63 that a text is.
-fn number(alloc: Global, text: &str) -> Result<Option<u64>, AllocError>
-    ensures { IfOk result (IsNumber text.now) }
+fn number(text: &str) -> Option<u64>
+    ensures { IsNumber text.now result }
 {
-    match text.parse::<u64>() {
-        Err(_) => Ok(None),
-        Ok(n) => {
-            let written = n.to_string(alloc)?;
-            if n < 0x8000_0000_0000_0000 && written.as_str() == text {
-                Ok(Some(n))
-            } else {
-                Ok(None)
-            }
-        }
+    let n = decimal_of(text)?;
+    if n < 0x8000_0000_0000_0000 {
+        Some(n)
+    } else {
+        None
     }
 }
 
@@ -31,14 +27,14 @@ pub(crate) fn numbers(alloc: Global, text: &str) -> Result<Option<Vec<u64>>, All
     let mut rest = text;
     'parts: loop {
         match rest.split_once(',') {
-            None => match number(alloc, rest)? {
+            None => match number(rest) {
                 None => return Ok(None),
                 Some(n) => {
                     read.push(n)?;
                     return Ok(Some(read));
                 }
             },
-            Some((part, later)) => match number(alloc, part)? {
+            Some((part, later)) => match number(part) {
                 None => return Ok(None),
                 Some(n) => {
                     read.push(n)?;

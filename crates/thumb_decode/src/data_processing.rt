@@ -3,7 +3,8 @@
 ghost use Rattle.std.specs.Prelude.{◌≡◌, ℕ, ◌+◌, ◌*◌, ◌/◌, ◌%◌, ◌^◌, ◌<◌, ◌==◌, ◌&&◌, ◌||◌, not, true, false, Bool, if◌then◌else◌};
 ghost use Rattle.thumb_instr.specs.declared.operands.Operand.{Operand as AnOperand};
 ghost use Rattle.thumb_instr.specs.Patterns.{decoded};
-ghost use Rattle.thumb_instr.specs.DataRows.{names, is_sum, reads_carry, is_rrx, moves_sp, has_odd_sp, is_copy, takes_sp, alu_row, move_row, test_row, or_test, or_move, data_processing, shifted};
+ghost use Rattle.thumb_instr.specs.Sets.{sums_with_carry};
+ghost use Rattle.thumb_instr.specs.DataRows.{names, is_add_or_sub, is_rrx, moves_sp, has_odd_sp, is_copy, takes_sp, alu_row, move_row, test_row, or_test, or_move, data_processing, shifted};
 ghost use Rattle.thumb_decode.specs.Groups.{full_group};
 
 use crate::making::pair_bits;
@@ -70,8 +71,8 @@ fn is_copy(op: MoveOp, s: bool, x: &Operand) -> bool
     }
 }
 
-fn is_sum(op: AluOp) -> bool
-    ensures { result ≡ is_sum op }
+fn is_add_or_sub(op: AluOp) -> bool
+    ensures { result ≡ is_add_or_sub op }
 {
     match op {
         AluOp::Add | AluOp::Sub => true,
@@ -79,8 +80,8 @@ fn is_sum(op: AluOp) -> bool
     }
 }
 
-fn reads_carry(op: AluOp) -> bool
-    ensures { result ≡ reads_carry op }
+fn sums_with_carry(op: AluOp) -> bool
+    ensures { result ≡ sums_with_carry op }
 {
     match op {
         AluOp::Adc | AluOp::Sbc => true,
@@ -105,7 +106,7 @@ fn has_odd_sp(op: AluOp, d: Reg, n: Reg, x: &Operand) -> bool
     if names_sp(x) {
         return true;
     }
-    if is_sum(op) {
+    if is_add_or_sub(op) {
         is_sp(d) && !(is_sp(n) && moves_sp(x))
     } else {
         is_sp(d) || is_sp(n)
@@ -127,9 +128,9 @@ fn without_pc(x: &Operand)
 
 /// Whether flags are set that are read.
 fn sets_what_it_reads(op: AluOp, s: bool, x: &Operand) -> bool
-    ensures { result ≡ (s && (reads_carry op || is_rrx x.now)) }
+    ensures { result ≡ (s && (sums_with_carry op || is_rrx x.now)) }
 {
-    s && (reads_carry(op) || is_rrx(x))
+    s && (sums_with_carry(op) || is_rrx(x))
 }
 
 #[tactic(auto, unfolding(thumb_instr::specs::DataRows::alu_row))]

@@ -86,24 +86,7 @@ pub(crate) fn cond_of(number: u16) -> Option<Cond>
     requires { number < 16 }
     ensures { result ≡ slice_get conditions number }
 {
-    Some(match number {
-        0 => Cond::Eq,
-        1 => Cond::Ne,
-        2 => Cond::Cs,
-        3 => Cond::Cc,
-        4 => Cond::Mi,
-        5 => Cond::Pl,
-        6 => Cond::Vs,
-        7 => Cond::Vc,
-        8 => Cond::Hi,
-        9 => Cond::Ls,
-        10 => Cond::Ge,
-        11 => Cond::Lt,
-        12 => Cond::Gt,
-        13 => Cond::Le,
-        14 => Cond::Al,
-        _ => return None,
-    })
+    Cond::numbered(number as u8)
 }
 
 /// The signed number that `width` bits stand for.
@@ -200,10 +183,7 @@ pub(crate) fn wide(op: WideOp, d: Reg, n: Reg, imm: u16) -> Result<Instr, BadIns
 pub(crate) fn half(top: bool, d: Reg, imm: u16) -> Result<Instr, BadInstr>
     ensures { result ≡ half top d imm }
 {
-    match Half::new(top, d, imm) {
-        Some(i) => Ok(Instr::Half(i)),
-        None => Err(BadInstr::Unpredictable),
-    }
+    Ok(Instr::Half(Half { top, d, imm }))
 }
 
 pub(crate) fn field(
@@ -233,19 +213,13 @@ pub(crate) fn unary(op: UnaryOp, d: Reg, m: Reg, turn: u8) -> Result<Instr, BadI
 pub(crate) fn mul(s: bool, d: Reg, n: Reg, m: Reg) -> Result<Instr, BadInstr>
     ensures { result ≡ mul s d n m }
 {
-    match Mul::new(s, d, n, m) {
-        Some(i) => Ok(Instr::Mul(i)),
-        None => Err(BadInstr::Unpredictable),
-    }
+    Ok(Instr::Mul(Mul { s, d, n, m }))
 }
 
 pub(crate) fn mul_acc(minus: bool, d: Reg, n: Reg, m: Reg, a: Reg) -> Result<Instr, BadInstr>
     ensures { result ≡ mul_acc minus d n m a }
 {
-    match MulAcc::new(minus, d, n, m, a) {
-        Some(i) => Ok(Instr::MulAcc(i)),
-        None => Err(BadInstr::Unpredictable),
-    }
+    Ok(Instr::MulAcc(MulAcc { minus, d, n, m, a }))
 }
 
 pub(crate) fn long_mul(op: LongMulOp, lo: Reg, hi: Reg, n: Reg, m: Reg) -> Result<Instr, BadInstr>
@@ -260,10 +234,12 @@ pub(crate) fn long_mul(op: LongMulOp, lo: Reg, hi: Reg, n: Reg, m: Reg) -> Resul
 pub(crate) fn div(with_sign: bool, d: Reg, n: Reg, m: Reg) -> Result<Instr, BadInstr>
     ensures { result ≡ div with_sign d n m }
 {
-    match Div::new(with_sign, d, n, m) {
-        Some(i) => Ok(Instr::Div(i)),
-        None => Err(BadInstr::Unpredictable),
-    }
+    Ok(Instr::Div(Div {
+        signed: with_sign,
+        d,
+        n,
+        m,
+    }))
 }
 
 pub(crate) fn access(op: AccessOp, t: Reg, n: Reg, at: Place) -> Result<Instr, BadInstr>
@@ -364,19 +340,13 @@ pub(crate) fn call(offset: i32) -> Result<Instr, BadInstr>
 pub(crate) fn jump(m: Reg) -> Result<Instr, BadInstr>
     ensures { result ≡ jump m }
 {
-    match Jump::new(m) {
-        Some(i) => Ok(Instr::Jump(i)),
-        None => Err(BadInstr::Unpredictable),
-    }
+    Ok(Instr::Jump(Jump { m }))
 }
 
 pub(crate) fn call_reg(m: Reg) -> Result<Instr, BadInstr>
     ensures { result ≡ call_reg m }
 {
-    match CallReg::new(m) {
-        Some(i) => Ok(Instr::CallReg(i)),
-        None => Err(BadInstr::Unpredictable),
-    }
+    Ok(Instr::CallReg(CallReg { m }))
 }
 
 pub(crate) fn it(first: Cond, mask: u8) -> Result<Instr, BadInstr>

@@ -225,16 +225,16 @@ pub(crate) fn long_form(h: u32, place: ItPlace) -> Result<Instr, BadInstr>
     ensures { result ≡ decoded 32 (full_group 9 503 place) h }
 {
     let n = pair_bits(h, 16, 4);
-    let high = pair_bits(h, 12, 4);
-    let low = pair_bits(h, 8, 4);
+    let lo = pair_bits(h, 12, 4);
+    let hi = pair_bits(h, 8, 4);
     let m = pair_bits(h, 0, 4);
     match (first_bits(h, 20), pair_bits(h, 4, 4)) {
-        (0xFB8, 0) => long_row(LongMulOp::Smull, n, high, low, m),
-        (0xFBA, 0) => long_row(LongMulOp::Umull, n, high, low, m),
-        (0xFBC, 0) => long_row(LongMulOp::Smlal, n, high, low, m),
-        (0xFBE, 0) => long_row(LongMulOp::Umlal, n, high, low, m),
-        (0xFB9, 15) if high == 15 => quotient_row(true, n, low, m),
-        (0xFBB, 15) if high == 15 => quotient_row(false, n, low, m),
+        (0xFB8, 0) => long_row(LongMulOp::Smull, n, lo, hi, m),
+        (0xFBA, 0) => long_row(LongMulOp::Umull, n, lo, hi, m),
+        (0xFBC, 0) => long_row(LongMulOp::Smlal, n, lo, hi, m),
+        (0xFBE, 0) => long_row(LongMulOp::Umlal, n, lo, hi, m),
+        (0xFB9, 15) if lo == 15 => quotient_row(true, n, hi, m),
+        (0xFBB, 15) if lo == 15 => quotient_row(false, n, hi, m),
         _ => Err(BadInstr::Unknown),
     }
 }

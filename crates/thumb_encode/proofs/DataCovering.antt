@@ -14,7 +14,8 @@ use Rattle.thumb_instr.specs.declared.refusals.BadInstr.TheVariants.{Unpredictab
 use Rattle.thumb_instr.specs.Operands.{is_operand}
 use Rattle.thumb_instr.specs.Patterns.{Answer}
 use Rattle.thumb_instr.specs.Meanings.{alu, move, test}
-use Rattle.thumb_instr.specs.DataRows.{names, is_rrx, reads_carry, has_odd_sp, alu_row, is_copy, move_row, takes_sp, test_row, or_test, or_move, unknown, operations, data_processing}
+use Rattle.thumb_instr.specs.Sets.{sums_with_carry}
+use Rattle.thumb_instr.specs.DataRows.{names, is_rrx, has_odd_sp, alu_row, is_copy, move_row, takes_sp, test_row, or_test, or_move, unknown, operations, data_processing}
 use Rattle.thumb_encode.specs.FullCodes.{full_code, data_code, alu_number, move_number, test_number}
 use Rattle.thumb_encode.proofs.Covering.{OfAnswer, Each, done, ◌&◌, each-get, of_when, of_refused, of_either}
 
@@ -31,7 +32,7 @@ unfolding alu_row full_code
 alu_row-makes op s n d x c is = of_refused (IsOnly c)
     (((d == 15) || (n == 15) || names 15 x, PcOperand)
     ∷ (has_odd_sp op d n x || not (is_operand x), Unpredictable)
-    ∷ (s && (reads_carry op || is_rrx x), ReadsAndSetsFlags) ∷ [])
+    ∷ (s && (sums_with_carry op || is_rrx x), ReadsAndSetsFlags) ∷ [])
     (alu op s d n x) (of_when (IsOnly c) (is_operand x) _ (ap Some is))
 
 move_row-makes : (op : MoveOp) (s : Bool) (n d : ℕ) (x : Operand) (c : ℕ) → n ≡ 15 → data_code (move_number op) s n d x ≡ c → OfAnswer (IsOnly c) (move_row op s d x)

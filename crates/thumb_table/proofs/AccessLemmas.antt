@@ -12,7 +12,8 @@ use Rattle.thumb_table.specs.declared.faults.FaultKind.TheVariants.{BadAddress}
 use Rattle.thumb_table.specs.Parts.{Memory}
 use Rattle.thumb_table.specs.States.{Core, Site, read, unchanged, upright}
 use Rattle.thumb_table.specs.Effects.{address_of, base_write, size_of, lies_in, accessed, writing, change}
-use Rattle.thumb_table.specs.Views.{core_of, alone, base_list, is_load, loaded_word, stored_cells}
+use Rattle.thumb_table.specs.CoreStates.{core_of, alone}
+use Rattle.thumb_table.specs.Views.{base_list, is_load, loaded_word, stored_cells}
 
 pub address_alone : (n : ℕ) (place : Place) (s : Registers) (m : Memory) → address_of n place (core_of s m) ≡ address_of n place (alone s)
 address_alone n (Offset up imm) s m = refl

@@ -8,7 +8,7 @@ use Rattle.thumb_table.specs.Parts.{Memory}
 use Rattle.thumb_table.specs.Conditions.{holds}
 use Rattle.thumb_table.specs.Effects.{branch_if}
 use Rattle.thumb_table.specs.Steps.{settled, goes_on}
-use Rattle.thumb_table.specs.Views.{core_of, state_of, alone}
+use Rattle.thumb_table.specs.CoreStates.{core_of, state_of, alone}
 
 -- conditions don't read memory
 pub holds_alone : (cond : Cond) (s : Registers) (m : Memory) → holds cond (core_of s m) ≡ holds cond (alone s)

@@ -1,28 +1,26 @@
 -- Worked values of the formulas.
-use Rattle.std.proofs.Common.{◌≡◌, ℕ, Bool, true, false, List, [], ◌∷◌, Option, Some, None, Ok, Err, refl}
-use Rattle.mark_word.specs.declared.numbers.Shift.TheVariants.{Lsl, Lsr, Asr, Ror}
-use Rattle.mark_word.specs.declared.numbers.Shifted.{Shifted}
+use Rattle.std.proofs.Common.{◌≡◌, ℕ, Bool, true, false, List, [], ◌∷◌, Some, None, Ok, Err, refl}
+use Rattle.mark_word.specs.declared.numbers.Shift.TheVariants.{Lsl, Lsr}
 use Rattle.mark_word.specs.declared.marks.Mark.TheVariants.{Entry}
 use Rattle.mark_word.specs.Words.{Word, plain}
 use Rattle.thumb_instr.specs.declared.operations.AluOp.TheVariants as alu
 use Rattle.thumb_instr.specs.declared.operations.MoveOp.TheVariants.{Mov}
 use Rattle.thumb_instr.specs.declared.operations.TestOp.TheVariants.{Cmp, Tst}
-use Rattle.thumb_instr.specs.declared.operations.FieldOp.TheVariants.{Sbfx, Bfi, Bfc}
+use Rattle.thumb_instr.specs.declared.operations.FieldOp.TheVariants.{Bfi}
 use Rattle.thumb_instr.specs.declared.operations.UnaryOp.TheVariants.{Sxth, Sxtb, Uxtb, Rev, Rev16, Revsh, Rbit, Clz}
 use Rattle.thumb_instr.specs.declared.operations.LongMulOp.TheVariants.{Smull, Umull, Smlal, Umlal}
 use Rattle.thumb_instr.specs.declared.operands.Operand.TheVariants.{Imm, Reg}
-use Rattle.thumb_instr.specs.declared.instructions.Instr.{Instr}
 use Rattle.thumb_instr.specs.declared.instructions.Instr.TheVariants as instr
 use Rattle.thumb_table.specs.declared.faults.FaultKind.TheVariants as fault
-use Rattle.thumb_table.specs.States.{Core, Site, Outcome, Change, Falls, unchanged}
-use Rattle.thumb_table.specs.Values.{Computed, computed, tested, extended, field_of, with_field, unary, rotated, long_product, quotient, signed_quotient, moved}
-use Rattle.thumb_table.specs.Effects.{change, number, writing, with_flags, field_value, two_words}
+use Rattle.thumb_table.specs.States.{Core, Site, unchanged}
+use Rattle.thumb_table.specs.Values.{Given, Computed, computed, tested, extended, field_of, with_field, unary, rotated, long_product, quotient, signed_quotient, moved}
+use Rattle.thumb_table.specs.Effects.{change, number, writing}
 
-abbrev of : ℕ → Shifted
-of n = record { value = n; carry = false }
+abbrev of : ℕ → Given
+of n = record { value = n; carry = None }
 
 abbrev sum : ℕ → Bool → Bool → Computed
-sum value carry overflow = record { value = value; carry = carry; overflow = Some overflow }
+sum value carry overflow = record { value = value; carry = Some carry; overflow = Some overflow }
 
 add-carries : computed alu.Add 0xFFFFFFFF (of 1) true ≡ sum 0 true false
 add-carries = refl
@@ -58,11 +56,11 @@ sbc-equal = refl
 cmp-equal : computed (tested Cmp) 5 (of 5) false ≡ sum 0 true false
 cmp-equal = refl
 
--- a logical operation has the operand's carry
-bic-carries : computed alu.Bic 0xFF (record { value = 0x0F; carry = true }) false ≡ record { value = 0xF0; carry = true; overflow = None }
+-- a logical operation has the operand's carry, if there is one
+bic-carries : computed alu.Bic 0xFF (record { value = 0x0F; carry = Some true }) false ≡ record { value = 0xF0; carry = Some true; overflow = None }
 bic-carries = refl
 
-orn-turns : computed alu.Orn 0 (of 0xFFFFFFFE) true ≡ record { value = 1; carry = false; overflow = None }
+orn-turns : computed alu.Orn 0 (of 0xFFFFFFFE) true ≡ record { value = 1; carry = None; overflow = None }
 orn-turns = refl
 
 field-signed : extended 8 (field_of 4 8 0xFF0) ≡ 0xFFFFFFFF
@@ -158,9 +156,9 @@ umull-words : change (instr.LongMul (record { op = Umull; lo = 1; hi = 0; n = 0;
 unfolding change
 umull-words = refl
 
--- TST leaves V, CMP sets it
+-- TST leaves V, and C where its operand is not shifted; CMP sets them
 tst : change (instr.Test (record { op = Tst; n = 0; x = Reg 0 Lsl 0 })) nowhere (before (plain 0 ∷ []))
-    ≡ Ok (record unchanged { n = Some false; z = Some true; c = Some true })
+    ≡ Ok (record unchanged { n = Some false; z = Some true })
 unfolding change
 tst = refl
 
@@ -171,7 +169,7 @@ cmp = refl
 
 -- a shift by 0 leaves C; by 32 it is the last bit shifted out, and beyond that 0
 lsls-none : change (instr.ShiftBy (record { kind = Lsl; s = true; d = 0; n = 0; m = 1 })) nowhere (before (plain 1 ∷ plain 0x100 ∷ []))
-    ≡ Ok (record (number 0 1) { n = Some false; z = Some false; c = Some true })
+    ≡ Ok (record (number 0 1) { n = Some false; z = Some false })
 unfolding change
 lsls-none = refl
 

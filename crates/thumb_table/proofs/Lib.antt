@@ -11,4 +11,11 @@ pub mod MultiLemmas
 pub mod OrdinaryLemmas
 pub mod ResultLemmas
 pub mod NumberLemmas
+pub mod PlainImages
+mod LinkChecks
+mod LinkLists
+mod LinkComparing
+mod CallExample
+mod HalvesExample
+mod NamesExample
 mod Examples

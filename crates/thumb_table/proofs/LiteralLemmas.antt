@@ -8,7 +8,7 @@ use Rattle.thumb_instr.specs.declared.instructions.Instr.TheVariants.{Adr}
 use Rattle.thumb_table.specs.Values.{moved}
 use Rattle.thumb_table.specs.States.{Core, Site, upright}
 use Rattle.thumb_table.specs.Effects.{change, writing, literal_base, half_word}
-use Rattle.thumb_table.specs.Views.{core_of, alone}
+use Rattle.thumb_table.specs.CoreStates.{core_of, alone}
 
 pub half_alone : (top : Bool) (d imm : ℕ) (site : Site) (s : Registers) (m : Memory) → half_word top d imm site (core_of s m) ≡ half_word top d imm site (alone s)
 half_alone true d imm site s m = refl

@@ -13,7 +13,8 @@ use Rattle.thumb_table.specs.Parts.{Memory}
 use Rattle.thumb_table.specs.States.{Core, Change, Site, is_askew, upright, write_all}
 use Rattle.thumb_table.specs.Steps.{settled}
 use Rattle.thumb_table.specs.Effects.{value, registers, loaded, transferred, after_base, base_moved, bytes_of, lowest, on_words, and_next, jump_if, change, word_at}
-use Rattle.thumb_table.specs.Views.{core_of, state_of, alone, with_cells, list_change, list_outcome}
+use Rattle.thumb_table.specs.CoreStates.{core_of, state_of, alone}
+use Rattle.thumb_table.specs.Views.{with_cells, list_change, list_outcome}
 use Rattle.thumb_table.proofs.MarkLemmas.{differs}
 
 pub multi_change : (i : MultiFields) (site : Site) (s : Registers) (m : Memory) (bytes a : ℕ) → bytes ≡ bytes_of i.list.0 i.pc → a ≡ lowest i.down (value (alone s) i.n) bytes

@@ -12,7 +12,8 @@ use Rattle.thumb_table.specs.declared.faults.FaultKind.{FaultKind}
 use Rattle.thumb_table.specs.Parts.{Memory}
 use Rattle.thumb_table.specs.States.{Site, Outcome}
 use Rattle.thumb_table.specs.Effects.{change, operand, moved_word, field_value}
-use Rattle.thumb_table.specs.Views.{core_of, alone, Leads, Makes, Stops}
+use Rattle.thumb_table.specs.CoreStates.{core_of, alone}
+use Rattle.thumb_table.specs.Views.{Leads, Makes, Halts}
 
 -- operands don't read memory
 pub operand_alone : (x : Operand) (s : Registers) (m : Memory) → operand x (core_of s m) ≡ operand x (alone s)
@@ -44,6 +45,6 @@ makes_of i outcome next s t (Err kind) same h = tt
 
 pub stops_of : (i : Instr) (outcome : Outcome) (next : ℕ) (s t : Registers) (r : Result (Unit {0}) FaultKind)
     → ((site : Site) (m : Memory) → change i site (core_of s m) ≡ outcome)
-    → IfErr r (λ kind. (outcome ≡ Err kind) × (t ≡ s)) → IfErr r (λ kind. Stops i next s kind × (t ≡ s))
+    → IfErr r (λ kind. (outcome ≡ Err kind) × (t ≡ s)) → IfErr r (λ kind. Halts i next s kind × (t ≡ s))
 stops_of i outcome next s t (Ok u) same h = tt
 stops_of i outcome next s t (Err kind) same h = (λ site m. rw (same site m, h.0) refl, h.1)

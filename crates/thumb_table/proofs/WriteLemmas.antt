@@ -8,7 +8,8 @@ use Rattle.thumb_table.specs.declared.faults.FaultKind.TheVariants.{BadStack}
 use Rattle.thumb_table.specs.Parts.{Memory}
 use Rattle.thumb_table.specs.States.{Change, is_askew, unchanged, upright, write_all}
 use Rattle.thumb_table.specs.Steps.{settled}
-use Rattle.thumb_table.specs.Views.{core_of, state_of, with_cells, with_regs, base_list}
+use Rattle.thumb_table.specs.CoreStates.{core_of, state_of}
+use Rattle.thumb_table.specs.Views.{with_cells, with_regs, base_list}
 
 -- writes that keep sp upright
 pub made : (regs : List (ℕ × Word)) (cells : List (ℕ × Cell)) (next : ℕ) (s : Registers) (m : Memory) → list_any is_askew regs ≡ false

@@ -1,151 +1,24 @@
--- The image of objects that are placed in memory: code from a base on, then data.
-use Rattle.std.specs.Prelude.{◌≡◌, ◌<◌, ◌≤◌, ◌↔◌, ℕ, zero, suc, ◌+◌, ◌-◌, ◌%◌, ◌^◌, ◌==◌, ◌&&◌, max, Bool, true, false, List, [], ◌∷◌, ◌++◌, length, map, replicate, filter, find, Option, Some, None, if◌then◌else◌, All, Contains, slice_get}
+-- The image of objects that are placed in memory.
+use Rattle.std.specs.Prelude.{◌≡◌, ◌↔◌, ℕ, zero, suc, ◌+◌, ◌-◌, true, false, List, [], ◌∷◌, ◌++◌, length, map, replicate, get_or, Option, Some, None, if◌then◌else◌, Contains, slice_get}
 use Rattle.std.specs.List.Sorted.{IsStrictlyIncreasing}
-use Rattle.elf_model.specs.declared.objects.Section.{Section}
-use Rattle.elf_model.specs.declared.objects.Symbol.{Symbol}
-use Rattle.elf_model.specs.declared.objects.Home.{Home}
-use Rattle.elf_model.specs.declared.objects.Home.TheVariants as home
-use Rattle.elf_model.specs.Constants.{nobits, global, weak, func}
-use Rattle.elf_model.specs.Fields.{same_name}
+use Rattle.elf_model.specs.declared.objects.Reloc.{Reloc}
+use Rattle.elf_model.specs.declared.refusals.Spot.{Spot}
+use Rattle.elf_model.specs.declared.ranges.RangeKind.TheVariants.{Data}
+use Rattle.elf_model.specs.Fields.{byte_at, same_name}
 use Rattle.elf_model.specs.Objects.{ObjectParts, is_code}
 pub use Rattle.elf_model.specs.Objects.{is_data, even}
-use Rattle.elf_model.specs.Canonical.{round_up}
-use Rattle.elf_model.specs.declared.ranges.RangeKind.TheVariants.{Data}
 use Rattle.elf_model.specs.Ranges.{IsBeginning}
-use Rattle.mark_word.specs.declared.marks.Mark.TheVariants.{Return}
-use Rattle.mark_word.specs.Words.{Word, Cell, plain, bare}
+use Rattle.mark_word.specs.declared.marks.Mark.TheVariants.{Plain}
+use Rattle.mark_word.specs.Words.{bare}
 use Rattle.thumb_table.specs.declared.placements.Placement.{Placement}
-use Rattle.thumb_table.specs.Parts.{Image}
-use Rattle.thumb_table.specs.declared.parts.Part.{Part}
+use Rattle.thumb_table.specs.declared.parts.PlaceMark.{PlaceMark}
 use Rattle.thumb_table.specs.declared.parts.NamedEntry.{NamedEntry}
-use Rattle.thumb_table.specs.States.{State}
-
--- A placement is where code and data go: code from `base` on, in `room` bytes, then data, then `stack` bytes.
-pub record IsPlacement (at : Placement) : Type 0 where
-  pub base_even : at.base % 4096 ≡ 0
-  pub base_fits : at.base < 2 ^ 32
-  pub room_even : at.room % 8 ≡ 0
-  pub room_low : 8 ≤ at.room
-  pub room_high : at.room ≤ 524288
-  pub stack_even : at.stack % 8 ≡ 0
-  pub stack_low : 8 ≤ at.stack
-  pub stack_high : at.stack ≤ 16777216
-
--- A section in its place: of which object, its number there, its number among the sections of its sort
--- (code, or data), and where it starts.
-pub record Placed : Type 0 where
-  pub object : ℕ
-  pub index : ℕ
-  pub ordinal : ℕ
-  pub start : ℕ
-  pub section : Section
-
--- the sections of a sort, in the order of objects and sections, not yet placed
-abbrev pub chosen : (Section → Bool) → ℕ → ℕ → ℕ → List Section → List Placed
-chosen sort i j k [] = []
-chosen sort i j k (s ∷ rest) =
-    if sort s then record { object = i; index = j; ordinal = k; start = 0; section = s } ∷ chosen sort i (j + 1) (k + 1) rest
-    else chosen sort i (j + 1) k rest
-
-abbrev pub all_chosen : (Section → Bool) → ℕ → List ObjectParts → List Placed
-all_chosen sort i [] = []
-all_chosen sort i (o ∷ rest) = chosen sort i 0 0 o.sections ++ all_chosen sort (i + 1) rest
-
--- one behind the other from an address on, each at a multiple of its alignment
-abbrev pub placed : (Section → ℕ) → ℕ → List Placed → List Placed
-placed alignment from [] = []
-placed alignment from (p ∷ rest) =
-    let start = round_up from (alignment p.section) in
-    record p { start = start } ∷ placed alignment (start + p.section.size) rest
-
-abbrev pub code_parts : List ObjectParts → Placement → List Placed
-code_parts objects at = placed (λ s. max 4 s.align) at.base (all_chosen is_code 0 objects)
-
-abbrev pub data_parts : List ObjectParts → Placement → List Placed
-data_parts objects at = placed (λ s. s.align) (at.base + at.room) (all_chosen is_data 0 objects)
-
--- the bytes of parts from an address on, with zeros between them and in sections without bytes
-abbrev pub part_bytes : Section → List ℕ
-part_bytes s = if s.kind == nobits then replicate s.size 0 else s.bytes
-
-abbrev pub bytes_from : ℕ → List Placed → List ℕ
-bytes_from from [] = []
-bytes_from from (p ∷ rest) = replicate (p.start - from) 0 ++ part_bytes p.section ++ bytes_from (p.start + p.section.size) rest
-
-abbrev pub code_bytes_of : List ObjectParts → Placement → List ℕ
-code_bytes_of objects at = bytes_from at.base (code_parts objects at)
-
-abbrev pub data_bytes_of : List ObjectParts → Placement → List ℕ
-data_bytes_of objects at = bytes_from (at.base + at.room) (data_parts objects at)
-
--- a symbol, of which object and its number there
-pub record Defined : Type 0 where
-  pub object : ℕ
-  pub index : ℕ
-  pub symbol : Symbol
-
-abbrev pub numbered : ℕ → ℕ → List Symbol → List Defined
-numbered i k [] = []
-numbered i k (s ∷ rest) = record { object = i; index = k; symbol = s } ∷ numbered i (k + 1) rest
-
-abbrev pub all_symbols : ℕ → List ObjectParts → List Defined
-all_symbols i [] = []
-all_symbols i (o ∷ rest) = numbered i 0 o.symbols ++ all_symbols (i + 1) rest
-
-abbrev pub is_defined : Home → Bool
-is_defined home.Undefined = false
-is_defined h = true
-
--- what other objects see: definitions that are global, and those that are weak
-abbrev pub globals : List ObjectParts → List Defined
-globals objects = filter (λ d. (d.symbol.bind == global) && is_defined d.symbol.home) (all_symbols 0 objects)
-
-abbrev pub weaks : List ObjectParts → List Defined
-weaks objects = filter (λ d. (d.symbol.bind == weak) && is_defined d.symbol.home) (all_symbols 0 objects)
-
--- A name stands for its global definition, else for the first weak one.
-abbrev pub resolved : List ObjectParts → List ℕ → Option Defined
-resolved objects name = find (λ d. same_name d.symbol.name name) (globals objects ++ weaks objects)
-
--- the part that an object's section is in, and where it starts; a section that isn't in memory starts at 0
-abbrev pub part_of : List Placed → ℕ → ℕ → Option Placed
-part_of parts i j = find (λ p. (p.object == i) && (p.index == j)) parts
-
-abbrev pub start_of : Option Placed → ℕ
-start_of None = 0
-start_of (Some p) = p.start
-
-abbrev pub home_start : List Placed → ℕ → Home → ℕ
-home_start parts i home.Undefined = 0
-home_start parts i home.Absolute = 0
-home_start parts i (home.Section j) = start_of (part_of parts i j)
-
--- a function in a code section
-abbrev pub is_in_code : List Placed → ℕ → Home → Bool
-is_in_code parts i home.Undefined = false
-is_in_code parts i home.Absolute = false
-is_in_code parts i (home.Section j) = is_some_code (part_of parts i j)
-  where
-    is_some_code : Option Placed → Bool
-    is_some_code None = false
-    is_some_code (Some p) = is_code p.section
-
-abbrev pub is_function : List Placed → Defined → Bool
-is_function parts d = (d.symbol.kind == func) && is_in_code parts d.object d.symbol.home
-
--- the address of a symbol, its bit 0 with it
-abbrev pub address_of : List Placed → Defined → ℕ
-address_of parts d = home_start parts d.object d.symbol.home + d.symbol.value
-
--- the functions that calls from outside name: each name once, by the definition that it stands for
-abbrev pub is_standing : List ObjectParts → Defined → Option Defined → Bool
-is_standing objects d None = false
-is_standing objects d (Some e) = (d.object == e.object) && (d.index == e.index)
-
-abbrev pub entries_of : List ObjectParts → List Placed → List NamedEntry
-entries_of objects parts =
-    map (λ d. record { name = d.symbol.name; address = even (address_of parts d) + 1 })
-    (filter (λ d. is_function parts d && is_standing objects d (resolved objects d.symbol.name)) (all_symbols 0 objects))
+use Rattle.thumb_table.specs.Parts.{Image, Memory}
+use Rattle.reloc_places.specs.Relocations.{IsRight}
+use Rattle.thumb_table.specs.Layouts.{Placed, IsPlacement, all_placed, as_part, code_bytes_of, data_bytes_of}
+use Rattle.thumb_table.specs.Names.{Defined, all_symbols, is_function, address_of, entries_of}
+use Rattle.thumb_table.specs.Links.{Link, IsLink, IsWritten, AreWritten, IsFree, place_of, mark_of}
+use Rattle.thumb_table.specs.LinkFaults.{IsReloc, LinkFault}
 
 -- data begins at an offset of a section
 abbrev pub IsDataStart : ObjectParts → ℕ → ℕ → Type 0
@@ -157,21 +30,36 @@ pub data IsStop (objects : List ObjectParts) (parts : List Placed) : ℕ → Typ
   at_data : (p : Placed) (o : ObjectParts) (x : ℕ) → Contains parts p → is_code p.section ≡ true → slice_get objects p.object ≡ Some o → IsDataStart o p.index x → IsStop objects parts (p.start + x)
   at_end : (p : Placed) → Contains parts p → is_code p.section ≡ true → IsStop objects parts (p.start + p.section.size)
 
--- all sections in their places, code first
-abbrev pub all_placed : List ObjectParts → Placement → List Placed
-all_placed objects at = code_parts objects at ++ data_parts objects at
-
-abbrev pub as_part : Placed → Part
-as_part p = record { object = p.object; code = is_code p.section; ordinal = p.ordinal; start = p.start; size = p.section.size }
-
--- what stands in the way of an image
+-- Nothing stands in the way of an image: each relocation is right, and there is no fault.
 pub record CanLink (objects : List ObjectParts) (at : Placement) : Type 0 where
-  -- relocations are not applied yet
-  pub no_relocations : All (λ o. o.relocs ≡ []) objects
-  pub once : (d e : Defined) → Contains (globals objects) d → Contains (globals objects) e → d.symbol.name ≡ e.symbol.name → (d.object ≡ e.object) × (d.index ≡ e.index)
-  pub code_fits : length (code_bytes_of objects at) ≤ at.room
-  pub data_fits : round_up (length (data_bytes_of objects at)) 8 + at.stack ≤ 16777216
-  pub end_fits : at.base + at.room + length (data_bytes_of objects at) ≤ 0x7FFFF000
+  pub right : (i k : ℕ) (o : ObjectParts) (r : Reloc) → IsReloc objects i k o r → IsRight o k r
+  pub sound : (spot : Spot) → ¬ LinkFault objects at spot
+
+-- The code is the sections' bytes in their places but for the places of relocations.
+pub record IsLinkedCode (objects : List ObjectParts) (at : Placement) (bytes : List ℕ) : Type 0 where
+  pub size : length bytes ≡ length (code_bytes_of objects at)
+  pub others : (x : ℕ) → IsFree objects at (at.base + x) → byte_at bytes x ≡ byte_at (code_bytes_of objects at) x
+  pub linked : (l : Link) → IsLink objects at l → is_code l.part.section ≡ true → IsWritten (all_placed objects at) bytes at.base l
+
+-- So is the data. Its cells have no pieces but at relocations.
+pub record IsLinkedData (objects : List ObjectParts) (at : Placement) (memory : Memory) : Type 0 where
+  pub base : memory.base ≡ at.base + at.room
+  pub size : length memory.cells ≡ length (data_bytes_of objects at)
+  pub others : (x : ℕ) → IsFree objects at (memory.base + x) → get_or memory.cells x (bare 0) ≡ bare (byte_at (data_bytes_of objects at) x)
+  pub linked : (l : Link) → IsLink objects at l → is_data l.part.section ≡ true → AreWritten (all_placed objects at) memory.cells memory.base l
+
+-- the mark of a relocation in code
+pub record IsMark (objects : List ObjectParts) (at : Placement) (m : PlaceMark) : Type 0 where
+  pub link : Link
+  pub is_link : IsLink objects at link
+  pub code : is_code link.part.section ≡ true
+  pub place : m.at ≡ place_of link
+  pub mark : m.mark ≡ mark_of (all_placed objects at) link
+  pub marked : m.mark ≡ Plain → ⊥
+
+pub record IsMarked (objects : List ObjectParts) (at : Placement) (marks : List PlaceMark) : Type 0 where
+  pub exact : (m : PlaceMark) → Contains marks m ↔ IsMark objects at m
+  pub rise : IsStrictlyIncreasing (map (λ (m : PlaceMark). m.at) marks)
 
 -- the image of objects at a placement
 pub record IsImage (objects : List ObjectParts) (at : Placement) (image : Image) : Type 0 where
@@ -179,11 +67,11 @@ pub record IsImage (objects : List ObjectParts) (at : Placement) (image : Image)
   pub can : CanLink objects at
   pub parts : image.parts ≡ map as_part (all_placed objects at)
   pub code_base : image.code.base ≡ at.base
-  pub code_bytes : image.code.bytes ≡ code_bytes_of objects at
-  pub marks : image.code.marks ≡ []
+  pub code : IsLinkedCode objects at image.code.bytes
+  pub marks : IsMarked objects at image.code.marks
   pub stops : (a : ℕ) → Contains image.code.stops a ↔ IsStop objects (all_placed objects at) a
   pub stops_rise : IsStrictlyIncreasing image.code.stops
-  pub memory : image.memory ≡ record { base = at.base + at.room; cells = map bare (data_bytes_of objects at) }
+  pub memory : IsLinkedData objects at image.memory
   pub room : image.room ≡ at.room
   pub entries : image.entries ≡ entries_of objects (all_placed objects at)
 
@@ -196,34 +84,3 @@ entry_of (e ∷ rest) name = if same_name e.name name then Some e.address else e
 abbrev pub image_bytes : Image → List ℕ
 image_bytes image =
     image.code.bytes ++ replicate (image.room - length image.code.bytes) 0 ++ map (λ c. c.byte) image.memory.cells
-
--- the memory of a run: the data, rounded up to a multiple of 8, and the stack
-abbrev pub run_cells : Image → ℕ → List Cell
-run_cells image stack =
-    image.memory.cells ++ replicate (round_up (length image.memory.cells) 8 - length image.memory.cells) (bare 0) ++ replicate stack (bare 0)
-
--- how many arguments go to registers
-abbrev pub argument : List ℕ → ℕ → Word
-argument [] k = plain 0
-argument (a ∷ rest) zero = plain a
-argument (a ∷ rest) (suc k) = argument rest k
-
--- A call starts so: arguments from r0 on, sp at the stack's end, lr where the call ends, all else 0.
-abbrev pub start_regs : List ℕ → ℕ → List Word
-start_regs args sp =
-    argument args 0 ∷ argument args 1 ∷ argument args 2 ∷ argument args 3 ∷ replicate 9 (plain 0)
-    ++ plain sp ∷ record { bits = 0x7FFFFFFF; mark = Return 0x7FFFFFFF } ∷ []
-
-abbrev pub start : Image → ℕ → ℕ → List ℕ → State
-start image stack entry args = record {
-  pc = even entry;
-  core = record {
-    regs = start_regs args (image.memory.base + length (run_cells image stack));
-    n = false;
-    z = false;
-    c = false;
-    v = false;
-    it = 0;
-    memory = record { base = image.memory.base; cells = run_cells image stack };
-  };
-}

@@ -6,6 +6,12 @@ pub mod Effects
 pub mod Ordinary
 pub mod Steps
 pub mod Schedules
+pub mod Layouts
+pub mod Names
+pub mod Links
+pub mod LinkFaults
 pub mod Images
+pub mod Calls
+pub mod CoreStates
 pub mod Views
 pub mod Results

@@ -1,5 +1,5 @@
--- The processor's registers, with memory beside them, as a state of the machine.
-use Rattle.std.specs.Prelude.{◌≡◌, ℕ, ◌+◌, ◌*◌, length, Bool, true, false, List, [], ◌∷◌, Option, Some, None, Ok, Err, if◌then◌else◌}
+-- What instructions make of registers and memory: the forms of inner contracts.
+use Rattle.std.specs.Prelude.{◌≡◌, ℕ, ◌+◌, ◌*◌, length, Bool, true, false, List, [], ◌∷◌, Option, Some, None, Ok, Err}
 use Rattle.mark_word.specs.Words.{Word, Cell, plain, bare, byte_of}
 use Rattle.mark_word.specs.Marks.{pieces}
 use Rattle.thumb_instr.specs.Fields.{PairFields, MultiFields}
@@ -9,40 +9,23 @@ use Rattle.thumb_instr.specs.declared.instructions.Instr.{Instr}
 use Rattle.thumb_table.specs.declared.cores.Core.{Core as Registers}
 use Rattle.thumb_table.specs.declared.faults.FaultKind.{FaultKind}
 use Rattle.thumb_table.specs.Parts.{Memory, CodeBytes}
-use Rattle.thumb_table.specs.States.{Core, State, Site, Change, Outcome, at, write_all, store_all, unchanged, upright}
+use Rattle.thumb_table.specs.States.{Core, Site, Change, Outcome, write_all, store_all, unchanged, upright}
+use Rattle.thumb_table.specs.CoreStates.{core_of, state_of, site_of}
 use Rattle.thumb_table.specs.Values.{extended}
 use Rattle.thumb_table.specs.Effects.{change, value, cell_at, word_at, half_at, from, after_base, base_write, base_moved, pair_place, transferred, registers, and_next, jump_if}
 use Rattle.thumb_table.specs.Steps.{settled}
-
-abbrev pub core_of : Registers → Memory → Core
-core_of s m = record { regs = s.r; n = s.n; z = s.z; c = s.c; v = s.v; it = s.it; memory = m }
-
-abbrev pub state_of : Registers → Memory → State
-state_of s m = at s.pc (core_of s m)
-
--- registers and flags alone, over memory that has no bytes
-abbrev pub alone : Registers → Core
-alone s = core_of s (record { base = 0; cells = [] })
-
--- the bytes of an instruction
-abbrev pub width_of : Bool → ℕ
-width_of wide = if wide then 4 else 2
 
 -- An instruction that doesn't reach memory makes these registers of those.
 abbrev pub Makes : Instr → ℕ → Registers → Registers → Type 0
 Makes i next s t = (site : Site) (m : Memory) → settled next (core_of s m) (change i site (core_of s m)) ≡ Ok (state_of t m)
 
 -- An instruction faults, whatever memory has.
-abbrev pub Stops : Instr → ℕ → Registers → FaultKind → Type 0
-Stops i next s kind = (site : Site) (m : Memory) → settled next (core_of s m) (change i site (core_of s m)) ≡ Err kind
+abbrev pub Halts : Instr → ℕ → Registers → FaultKind → Type 0
+Halts i next s kind = (site : Site) (m : Memory) → settled next (core_of s m) (change i site (core_of s m)) ≡ Err kind
 
 -- An outcome makes these registers of those, whatever memory has.
 abbrev pub Leads : Outcome → ℕ → Registers → Registers → Type 0
 Leads outcome next s t = (m : Memory) → settled next (core_of s m) outcome ≡ Ok (state_of t m)
-
--- where an instruction stands that so many bytes are of
-abbrev pub site_of : CodeBytes → Registers → ℕ → Site
-site_of code s width = record { code = code; address = s.pc; width = width }
 
 -- An instruction at pc that ends at `next` makes these registers and this memory of those.
 abbrev pub Turns : CodeBytes → Instr → ℕ → Registers → Memory → Registers → Memory → Type 0
@@ -66,8 +49,8 @@ base_list n None = []
 base_list n (Some bits) = (n, plain bits) ∷ []
 
 -- An instruction that doesn't write memory makes these registers of those, whatever code and memory have.
-abbrev pub Goes : Instr → ℕ → Registers → Registers → Type 0
-Goes i next s t = (code : CodeBytes) (m : Memory) → Turns code i next s m t m
+abbrev pub MovesOn : Instr → ℕ → Registers → Registers → Type 0
+MovesOn i next s t = (code : CodeBytes) (m : Memory) → Turns code i next s m t m
 
 -- It faults, whatever code and memory have.
 abbrev pub Faults : Instr → ℕ → Registers → FaultKind → Type 0

@@ -6,7 +6,8 @@ ghost use Rattle.thumb_instr.specs.Operands.{is_place};
 ghost use Rattle.thumb_table.specs.Parts.{CodeBytes};
 ghost use Rattle.thumb_table.specs.Values.{extended};
 ghost use Rattle.thumb_table.specs.Effects.{address_of as address_of_place, base_write, size_of as size, lies_in};
-ghost use Rattle.thumb_table.specs.Views.{alone, base_list, with_cells, is_load as is_load_of, loaded_word, stored_cells, Turns, Fails};
+ghost use Rattle.thumb_table.specs.CoreStates.{alone};
+ghost use Rattle.thumb_table.specs.Views.{base_list, with_cells, is_load as is_load_of, loaded_word, stored_cells, Turns, Fails};
 
 use crate::addresses::moved;
 use crate::writes::{put_base, put_load};

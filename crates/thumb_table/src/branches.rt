@@ -6,7 +6,8 @@ ghost use Rattle.thumb_instr.specs.declared.instructions.Instr.TheVariants as in
 ghost use Rattle.thumb_table.specs.Effects.{branch_if, value};
 ghost use Rattle.thumb_table.specs.Steps.{goes_on};
 ghost use Rattle.thumb_table.specs.Values.{away};
-ghost use Rattle.thumb_table.specs.Views.{alone, Goes, Faults};
+ghost use Rattle.thumb_table.specs.CoreStates.{alone};
+ghost use Rattle.thumb_table.specs.Views.{MovesOn, Faults};
 
 use crate::addresses::away;
 use crate::cores::{fall, holds};
@@ -29,7 +30,7 @@ fn branch_target(i: &Branch, pc: u32) -> u32
 
 /// B, with a condition.
 pub(crate) fn apply_branch(i: &Branch, next: u32, s: &mut Core)
-    ensures { Goes (instr.Branch i.now) next s.old s.new }
+    ensures { MovesOn (instr.Branch i.now) next s.old s.new }
 {
     let target = branch_target(i, s.pc);
     let taken = holds(i.cond, s);
@@ -54,7 +55,7 @@ fn is_taken(i: &ZeroBranch, s: &Core) -> bool
 
 /// CBZ and CBNZ.
 pub(crate) fn apply_zero_branch(i: &ZeroBranch, next: u32, s: &mut Core)
-    ensures { Goes (instr.ZeroBranch i.now) next s.old s.new }
+    ensures { MovesOn (instr.ZeroBranch i.now) next s.old s.new }
 {
     let target = zero_branch_target(i, s.pc);
     let taken = is_taken(i, s);
@@ -76,7 +77,7 @@ fn call_target(i: &Call, pc: u32) -> u32
 
 /// BL.
 pub(crate) fn apply_call(i: &Call, next: u32, s: &mut Core)
-    ensures { Goes (instr.Call i.now) next s.old s.new }
+    ensures { MovesOn (instr.Call i.now) next s.old s.new }
 {
     let target = call_target(i, s.pc);
     s.r[14] = return_word(next);
@@ -85,7 +86,7 @@ pub(crate) fn apply_call(i: &Call, next: u32, s: &mut Core)
 
 /// BX.
 pub(crate) fn apply_jump(i: &Jump, next: u32, s: &mut Core) -> Result<(), FaultKind>
-    ensures done { OnOk result (Goes (instr.Jump i.now) next s.old s.new) }
+    ensures done { OnOk result (MovesOn (instr.Jump i.now) next s.old s.new) }
     ensures fault { IfErr result (λ kind. Faults (instr.Jump i.now) next s.old kind × (s.new ≡ s.old)) }
 {
     let _ = next;
@@ -99,7 +100,7 @@ pub(crate) fn apply_jump(i: &Jump, next: u32, s: &mut Core) -> Result<(), FaultK
 
 /// BLX.
 pub(crate) fn apply_call_reg(i: &CallReg, next: u32, s: &mut Core) -> Result<(), FaultKind>
-    ensures done { OnOk result (Goes (instr.CallReg i.now) next s.old s.new) }
+    ensures done { OnOk result (MovesOn (instr.CallReg i.now) next s.old s.new) }
     ensures fault { IfErr result (λ kind. Faults (instr.CallReg i.now) next s.old kind × (s.new ≡ s.old)) }
 {
     let bits = s.word(i.m).bits();
@@ -113,7 +114,7 @@ pub(crate) fn apply_call_reg(i: &CallReg, next: u32, s: &mut Core) -> Result<(),
 
 /// IT.
 pub(crate) fn apply_it(i: &It, next: u32, s: &mut Core)
-    ensures { Goes (instr.It i.now) next s.old s.new }
+    ensures { MovesOn (instr.It i.now) next s.old s.new }
 {
     s.pc = next;
     s.it = it_state(i.first, i.mask);
@@ -121,7 +122,7 @@ pub(crate) fn apply_it(i: &It, next: u32, s: &mut Core)
 
 /// NOP and the barriers.
 pub(crate) fn apply_nothing(i: &Nothing, next: u32, s: &mut Core)
-    ensures { Goes (instr.Nothing i.now) next s.old s.new }
+    ensures { MovesOn (instr.Nothing i.now) next s.old s.new }
 {
     let _ = i;
     fall(next, s);

@@ -5,7 +5,7 @@ ghost use Rattle.thumb_instr.specs.Blocks.{it_after as it_after_of};
 ghost use Rattle.thumb_table.specs.States.{is_askew, read};
 ghost use Rattle.thumb_table.specs.Conditions.{holds};
 ghost use Rattle.thumb_table.specs.Steps.{takes_effect};
-ghost use Rattle.thumb_table.specs.Views.{alone};
+ghost use Rattle.thumb_table.specs.CoreStates.{alone};
 
 use mark_word::Word;
 use thumb_instr::{Cond, Reg, block_condition, it_after};

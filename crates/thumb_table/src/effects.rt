@@ -3,7 +3,8 @@
 ghost use Rattle.std.specs.Prelude.{◌≡◌, ◌<◌, ◌+◌, ◌↔◌, ◌^◌, IsTrue, OnOk, IfOk, IfErr, length, map};
 ghost use Rattle.std.specs.List.Sorted.{IsStrictlyIncreasing};
 ghost use Rattle.thumb_table.specs.Steps.{carried_out, OrdinaryIf};
-ghost use Rattle.thumb_table.specs.Views.{state_of, site_of, width_of, Turns, Fails};
+ghost use Rattle.thumb_table.specs.CoreStates.{state_of, site_of, width_of};
+ghost use Rattle.thumb_table.specs.Views.{Turns, Fails};
 
 use crate::accesses::apply_access;
 use crate::arithmetic::{apply_alu, apply_move, apply_shift_by, apply_test, apply_wide};

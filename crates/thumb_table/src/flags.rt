@@ -24,14 +24,14 @@ fn new_or_old(new: Option<bool>, old: bool) -> bool
     }
 }
 
-/// Sets N, Z and C, and V of a sum.
+/// Sets N and Z, C where there is a carry, and V of a sum.
 pub(crate) fn set_flags(sets: bool, r: &Computed, s: &mut Core)
     ensures { s.new ≡ flagged sets r.now s.old }
 {
     if sets {
         s.n = is_negative(r.value());
         s.z = r.value() == 0;
-        s.c = r.carry();
+        s.c = new_or_old(r.carry(), s.c);
         s.v = new_or_old(r.overflow(), s.v);
     }
 }

@@ -9,11 +9,12 @@ ghost use Rattle.thumb_instr.specs.declared.instructions.Instr.TheVariants as in
 ghost use Rattle.thumb_table.specs.Parts.{Memory};
 ghost use Rattle.thumb_table.specs.Values.{moved as moved_of};
 ghost use Rattle.thumb_table.specs.Effects.{lies, marked as marked_of, mark_at as mark_of, half_word as half_word_of};
-ghost use Rattle.thumb_table.specs.Views.{alone, site_of, Goes, Faults, Turns, Fails};
+ghost use Rattle.thumb_table.specs.CoreStates.{alone, site_of};
+ghost use Rattle.thumb_table.specs.Views.{MovesOn, Faults, Turns, Fails};
 
 use crate::addresses::{literal_base, moved};
+use crate::flags::write_word;
 use crate::marks::{completed, low_half, mark_at, marked};
-use crate::writes::put;
 use crate::{CodeBytes, Core, FaultKind};
 use byteorder::{ByteOrder, LittleEndian};
 use mark_word::Word;
@@ -28,10 +29,10 @@ fn near(i: &Adr, pc: u32) -> Word
 
 /// ADR.
 pub(crate) fn apply_adr(i: &Adr, next: u32, s: &mut Core) -> Result<(), FaultKind>
-    ensures done { OnOk result (Goes (instr.Adr i.now) next s.old s.new) }
+    ensures done { OnOk result (MovesOn (instr.Adr i.now) next s.old s.new) }
     ensures fault { IfErr result (λ kind. Faults (instr.Adr i.now) next s.old kind × (s.new ≡ s.old)) }
 {
-    put(i.d, near(i, s.pc), next, s)
+    write_word(i.d, near(i, s.pc), next, s)
 }
 
 /// The address of a literal.
@@ -67,7 +68,7 @@ pub(crate) fn apply_literal(
     if !code.holds(address, 4) {
         return Err(FaultKind::BadAddress);
     }
-    put(i.t, literal(code, address), next, s)
+    write_word(i.t, literal(code, address), next, s)
 }
 
 /// The word of a MOVW or MOVT.
@@ -94,5 +95,5 @@ pub(crate) fn apply_half(
     ensures done { OnOk result ((m : Memory) → Turns code.now (instr.Half i.now) next s.old m s.new m) }
     ensures fault { IfErr result (λ kind. ((m : Memory) → Fails code.now (instr.Half i.now) next s.old m kind) × (s.new ≡ s.old)) }
 {
-    put(i.d, half_word(i, code, s), next, s)
+    write_word(i.d, half_word(i, code, s), next, s)
 }

@@ -5,7 +5,8 @@ ghost use Rattle.thumb_instr.specs.declared.instructions.Instr.TheVariants as in
 ghost use Rattle.thumb_table.specs.Parts.{CodeBytes};
 ghost use Rattle.thumb_table.specs.States.{write_all};
 ghost use Rattle.thumb_table.specs.Effects.{value, word_at, registers, loaded, stored, bytes_of as bytes_of_list, lowest as lowest_of, lies_in, base_moved};
-ghost use Rattle.thumb_table.specs.Views.{alone, core_of, base_list, with_cells, list_change, popped as popped_of, list_outcome, Ends, Turns, Fails};
+ghost use Rattle.thumb_table.specs.CoreStates.{alone, core_of};
+ghost use Rattle.thumb_table.specs.Views.{base_list, with_cells, list_change, popped as popped_of, list_outcome, Ends, Turns, Fails};
 
 use crate::addresses::moved;
 use crate::cores::fall;
@@ -16,7 +17,7 @@ use mark_word::{Joined, Word};
 use thumb_instr::{Multi, Reg, RegSet};
 
 /// A register by its number.
-fn numbered(k: u8) -> Reg
+pub(crate) fn numbered(k: u8) -> Reg
     requires { k < 15 }
     ensures { result ≡ k }
 {

@@ -5,7 +5,7 @@ ghost use Rattle.std.specs.Prelude.{◌≡◌, ◌<◌, ◌+◌, ◌↔◌, ◌^
 ghost use Rattle.std.specs.List.Sorted.{IsStrictlyIncreasing};
 ghost use Rattle.thumb_table.specs.States.{read};
 ghost use Rattle.thumb_table.specs.Ordinary.{IsPlain, IsLow, in_operand, in_move, is_zero_test as is_zero_test_of, in_source, in_field, in_sum, in_place, in_part, used};
-ghost use Rattle.thumb_table.specs.Views.{alone};
+ghost use Rattle.thumb_table.specs.CoreStates.{alone};
 
 use crate::Core;
 use crate::operands::keeps;

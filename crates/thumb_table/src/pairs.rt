@@ -5,7 +5,8 @@ ghost use Rattle.thumb_instr.specs.declared.instructions.Instr.TheVariants as in
 ghost use Rattle.thumb_table.specs.Parts.{CodeBytes};
 ghost use Rattle.thumb_table.specs.States.{Outcome};
 ghost use Rattle.thumb_table.specs.Effects.{address_of as address_of_place, base_write, pair_place, lies_in, on_words};
-ghost use Rattle.thumb_table.specs.Views.{alone, core_of, base_list, pair_outcome, Ends, Turns, Fails};
+ghost use Rattle.thumb_table.specs.CoreStates.{alone, core_of};
+ghost use Rattle.thumb_table.specs.Views.{base_list, pair_outcome, Ends, Turns, Fails};
 
 use crate::addresses::moved;
 use crate::writes::{put_base, put_pair};

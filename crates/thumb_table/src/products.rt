@@ -2,7 +2,8 @@
 
 ghost use Rattle.std.specs.Prelude.{◌≡◌, ◌+◌, ◌*◌, ◌^◌, OnOk, IfErr};
 ghost use Rattle.thumb_instr.specs.declared.instructions.Instr.TheVariants as instr;
-ghost use Rattle.thumb_table.specs.Views.{Makes, Stops};
+ghost use Rattle.thumb_table.specs.Values.{wrapped};
+ghost use Rattle.thumb_table.specs.Views.{Makes, Halts};
 
 use crate::addresses::moved;
 use crate::flags::{write_signed, write_two, write_word};
@@ -14,7 +15,7 @@ use thumb_instr::{Div, LongMul, Mul, MulAcc};
 /// MUL.
 pub(crate) fn apply_mul(i: &Mul, next: u32, s: &mut Core) -> Result<(), FaultKind>
     ensures done { OnOk result (Makes (instr.Mul i.now) next s.old s.new) }
-    ensures fault { IfErr result (λ kind. Stops (instr.Mul i.now) next s.old kind × (s.new ≡ s.old)) }
+    ensures fault { IfErr result (λ kind. Halts (instr.Mul i.now) next s.old kind × (s.new ≡ s.old)) }
 {
     let n = s.word(i.n).bits();
     let m = s.word(i.m).bits();
@@ -25,7 +26,7 @@ pub(crate) fn apply_mul(i: &Mul, next: u32, s: &mut Core) -> Result<(), FaultKin
 /// MLA and MLS.
 pub(crate) fn apply_mul_acc(i: &MulAcc, next: u32, s: &mut Core) -> Result<(), FaultKind>
     ensures done { OnOk result (Makes (instr.MulAcc i.now) next s.old s.new) }
-    ensures fault { IfErr result (λ kind. Stops (instr.MulAcc i.now) next s.old kind × (s.new ≡ s.old)) }
+    ensures fault { IfErr result (λ kind. Halts (instr.MulAcc i.now) next s.old kind × (s.new ≡ s.old)) }
 {
     let n = s.word(i.n).bits();
     let m = s.word(i.m).bits();
@@ -37,7 +38,7 @@ pub(crate) fn apply_mul_acc(i: &MulAcc, next: u32, s: &mut Core) -> Result<(), F
 
 /// A number of 64 bits.
 fn joined(hi: u32, lo: u32) -> u64
-    ensures { result ≡ hi * 2 ^ 32 + lo }
+    ensures { result ≡ hi * 2 ^ 32 + wrapped lo }
 {
     u64::from(hi) * 0x1_0000_0000 + u64::from(lo)
 }
@@ -45,7 +46,7 @@ fn joined(hi: u32, lo: u32) -> u64
 /// SMULL, UMULL, SMLAL and UMLAL.
 pub(crate) fn apply_long_mul(i: &LongMul, next: u32, s: &mut Core) -> Result<(), FaultKind>
     ensures done { OnOk result (Makes (instr.LongMul i.now) next s.old s.new) }
-    ensures fault { IfErr result (λ kind. Stops (instr.LongMul i.now) next s.old kind × (s.new ≡ s.old)) }
+    ensures fault { IfErr result (λ kind. Halts (instr.LongMul i.now) next s.old kind × (s.new ≡ s.old)) }
 {
     let n = s.word(i.n).bits();
     let m = s.word(i.m).bits();
@@ -59,7 +60,7 @@ pub(crate) fn apply_long_mul(i: &LongMul, next: u32, s: &mut Core) -> Result<(),
 /// SDIV and UDIV.
 pub(crate) fn apply_div(i: &Div, next: u32, s: &mut Core) -> Result<(), FaultKind>
     ensures done { OnOk result (Makes (instr.Div i.now) next s.old s.new) }
-    ensures fault { IfErr result (λ kind. Stops (instr.Div i.now) next s.old kind × (s.new ≡ s.old)) }
+    ensures fault { IfErr result (λ kind. Halts (instr.Div i.now) next s.old kind × (s.new ≡ s.old)) }
 {
     let n = s.word(i.n).bits();
     let m = s.word(i.m).bits();

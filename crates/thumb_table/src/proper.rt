@@ -8,11 +8,12 @@ ghost use Rattle.thumb_table.specs.Parts.{Memory as Contents};
 ghost use Rattle.thumb_table.specs.States.{read};
 ghost use Rattle.thumb_table.specs.Effects.{address_of, cell_at, word_at, registers};
 ghost use Rattle.thumb_table.specs.Ordinary.{IsLow, in_operand, AreBare, AreWhole, OrdinaryAccess, OrdinaryTop, OrdinaryReturn, OrdinaryList, IsProper, IsOrdinaryUse};
-ghost use Rattle.thumb_table.specs.Views.{alone, core_of, site_of, popped as popped_of};
+ghost use Rattle.thumb_table.specs.CoreStates.{alone, core_of, site_of};
+ghost use Rattle.thumb_table.specs.Views.{popped as popped_of};
 
 use crate::jumps::{is_ordinary_jump, is_ordinary_return};
 use crate::marks::{completed, mark_at};
-use crate::multiple::{bytes_of, joined_behind, lowest};
+use crate::multiple::{bytes_of, joined_behind, lowest, numbered};
 use crate::ordinary::{is_low, is_plain, uses_numbers};
 use crate::{CodeBytes, Core, Memory, accesses, pairs};
 use mark_word::Mark;
@@ -60,13 +61,6 @@ fn reads_whole(op: AccessOp, address: u32, m: &Memory) -> bool
         AccessOp::Ldrh | AccessOp::Ldrsh => is_half_bare(m, at),
         _ => true,
     }
-}
-
-fn numbered(k: u8) -> Reg
-    requires { k < 15 }
-    ensures { result ≡ k }
-{
-    Reg::new(k).unwrap()
 }
 
 /// Whether the words of a list are whole.

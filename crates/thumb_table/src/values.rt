@@ -1,17 +1,59 @@
 //! The results of sums and logical operations (ARMv7-M ARM, A7.7).
 
 ghost use Rattle.std.specs.Prelude.{◌≡◌};
+ghost use Rattle.thumb_table.specs.Effects.{given_if};
 ghost use Rattle.thumb_table.specs.Values.{computed, logical, summed, tested, inverted, is_negative};
 
 use mark_word::{Shifted, Sum, add_flags};
 use std::marker::Model;
 use thumb_instr::{AluOp, TestOp};
 
-/// The result of a sum or a logical operation. A logical one has no overflow.
+/// An operand's value, and the carry that it gives; one that is not shifted or turned gives none.
+#[derive(Clone, Copy, Debug)]
+pub(crate) struct Given {
+    value: u32,
+    carry: Option<bool>,
+}
+
+impl Model for Given {
+    ghost use Rattle.thumb_table.specs.Values.{Given};
+
+    ghost Value = { Given };
+
+    ghost view = { λ g. record { value = g.value; carry = g.carry } };
+
+    ghost inverse = { λ g. record { value = g.value; carry = g.carry } };
+}
+
+impl Given {
+    /// A number with the carry that goes with it, if there is one.
+    pub(crate) fn new(gives: bool, s: Shifted) -> Given
+        ensures { result ≡ given_if gives s }
+    {
+        Given {
+            value: s.value,
+            carry: if gives { Some(s.carry) } else { None },
+        }
+    }
+
+    pub(crate) fn value(&self) -> u32
+        ensures { result ≡ self.now.value }
+    {
+        self.value
+    }
+
+    pub(crate) fn carry(&self) -> Option<bool>
+        ensures { result ≡ self.now.carry }
+    {
+        self.carry
+    }
+}
+
+/// The result of a sum or a logical operation. Where it has no carry or overflow, the flag stays.
 #[derive(Clone, Copy, Debug)]
 pub(crate) struct Computed {
     value: u32,
-    carry: bool,
+    carry: Option<bool>,
     overflow: Option<bool>,
 }
 
@@ -27,7 +69,7 @@ impl Model for Computed {
 
 impl Computed {
     /// The result of a logical operation.
-    pub(crate) fn logical(value: u32, carry: bool) -> Computed
+    pub(crate) fn logical(value: u32, carry: Option<bool>) -> Computed
         ensures { result ≡ logical value carry }
     {
         Computed {
@@ -43,7 +85,7 @@ impl Computed {
     {
         Computed {
             value: s.value,
-            carry: s.carry,
+            carry: Some(s.carry),
             overflow: Some(s.overflow),
         }
     }
@@ -54,7 +96,7 @@ impl Computed {
         self.value
     }
 
-    pub(crate) fn carry(&self) -> bool
+    pub(crate) fn carry(&self) -> Option<bool>
         ensures { result ≡ self.now.carry }
     {
         self.carry
@@ -94,19 +136,20 @@ pub(crate) fn tested(op: TestOp) -> AluOp
 }
 
 /// The result of an operation on a register's value, an operand's and the carry flag.
-pub(crate) fn alu_result(op: AluOp, n: u32, x: Shifted, c: bool) -> Computed
+pub(crate) fn alu_result(op: AluOp, n: u32, x: Given, c: bool) -> Computed
     ensures { result ≡ computed op n x c }
 {
+    let y = x.value();
     match op {
-        AluOp::And => Computed::logical(n & x.value, x.carry),
-        AluOp::Bic => Computed::logical(n & inverted(x.value), x.carry),
-        AluOp::Orr => Computed::logical(n | x.value, x.carry),
-        AluOp::Orn => Computed::logical(n | inverted(x.value), x.carry),
-        AluOp::Eor => Computed::logical(n ^ x.value, x.carry),
-        AluOp::Add => Computed::summed(add_flags(n, x.value, false)),
-        AluOp::Adc => Computed::summed(add_flags(n, x.value, c)),
-        AluOp::Sbc => Computed::summed(add_flags(n, inverted(x.value), c)),
-        AluOp::Sub => Computed::summed(add_flags(n, inverted(x.value), true)),
-        AluOp::Rsb => Computed::summed(add_flags(inverted(n), x.value, true)),
+        AluOp::And => Computed::logical(n & y, x.carry()),
+        AluOp::Bic => Computed::logical(n & inverted(y), x.carry()),
+        AluOp::Orr => Computed::logical(n | y, x.carry()),
+        AluOp::Orn => Computed::logical(n | inverted(y), x.carry()),
+        AluOp::Eor => Computed::logical(n ^ y, x.carry()),
+        AluOp::Add => Computed::summed(add_flags(n, y, false)),
+        AluOp::Adc => Computed::summed(add_flags(n, y, c)),
+        AluOp::Sbc => Computed::summed(add_flags(n, inverted(y), c)),
+        AluOp::Sub => Computed::summed(add_flags(n, inverted(y), true)),
+        AluOp::Rsb => Computed::summed(add_flags(inverted(n), y, true)),
     }
 }

@@ -13,19 +13,6 @@ use crate::{Core, FaultKind};
 use mark_word::Word;
 use thumb_instr::Reg;
 
-/// Writes a register, unless sp would be askew.
-pub(crate) fn put(d: Reg, w: Word, next: u32, s: &mut Core) -> Result<(), FaultKind>
-    ensures done { OnOk result (Leads (upright (writing ((d, w) ∷ []))) next s.old s.new) }
-    ensures fault { IfErr result (λ kind. (upright (writing ((d, w) ∷ [])) ≡ Err kind) × (s.new ≡ s.old)) }
-{
-    if is_askew(d, w) {
-        return Err(FaultKind::BadStack);
-    }
-    s.r[d.number() as usize] = w;
-    fall(next, s);
-    Ok(())
-}
-
 /// Whether the base would make sp no multiple of 4.
 pub(crate) fn is_base_askew(n: Reg, base: Option<u32>) -> bool
     ensures { result ≡ list_any is_askew_of (base_list n base) }

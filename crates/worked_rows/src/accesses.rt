@@ -130,42 +130,19 @@ fn keeps_a_loaded_base(rt: HostRuntime) -> Result<(), Fail> {
 
 #[test]
 fn stores(rt: HostRuntime) -> Result<(), Fail> {
+    let marked = Word::entry(0x0205);
     for (op, word, ordinary, first, second) in [
-        (
-            AccessOp::Str,
-            Word::plain(0x0201),
-            true,
-            Cell::bare(1),
-            true,
-        ),
-        (
-            AccessOp::Strb,
-            Word::plain(0x0203),
-            true,
-            Cell::bare(3),
-            false,
-        ),
-        (
-            AccessOp::Strh,
-            Word::plain(0x0203),
-            true,
-            Cell::bare(3),
-            true,
-        ),
-        (
-            AccessOp::Strb,
-            Word::entry(0x0205),
-            false,
-            Cell::bare(5),
-            false,
-        ),
+        (AccessOp::Str, Word::plain(0x0201), true, 1, true),
+        (AccessOp::Strb, Word::plain(0x0203), true, 3, false),
+        (AccessOp::Strh, Word::plain(0x0203), true, 3, true),
+        (AccessOp::Strb, marked, false, 5, false),
     ] {
         let mut m = memory(rt.alloc())?;
         let mut s = registers(word, Word::plain(0x9000), 0x8000);
         let i = access(op, 0, above(0)).ok_or("no access")?;
         assert_eq!(rt; carried(rt.alloc(), &i, &mut s, &mut m)?, Ok(ordinary));
         assert!(rt; m.cells().len() == 12);
-        assert_eq!(rt; m.cells()[0], first);
+        assert_eq!(rt; m.cells()[0], Cell::bare(first));
         assert_eq!(rt; m.cells()[1].piece().is_none(), second);
     }
     Ok(())

@@ -124,7 +124,6 @@ fn makes_no_other_instructions(rt: HostRuntime) {
         Field::new(FieldOp::Bfi, a, None, 0, 32).is_some(),
         Field::new(FieldOp::Sbfx, a, Some(b), 31, 2).is_some(),
         Field::new(FieldOp::Ubfx, a, Some(b), 0, 0).is_some(),
-        Field::new(FieldOp::Ubfx, a, Some(b), 255, 255).is_some(),
         Unary::new(UnaryOp::Uxth, a, b, 4).is_some(),
         Unary::new(UnaryOp::Sxth, a, b, 32).is_some(),
         Unary::new(UnaryOp::Clz, a, b, 8).is_some(),

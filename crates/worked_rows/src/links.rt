@@ -1,7 +1,7 @@
 //! Images of objects.
 
 ghost use Rattle.std.specs.Prelude.{IsTrue};
-ghost use Rattle.thumb_table.specs.Images.{IsPlacement};
+ghost use Rattle.thumb_table.specs.Layouts.{IsPlacement};
 
 use crate::objects::{Row, object_of, section};
 use elf_model::{Deny, Home, Limit, Object, Refusal, Spot, within};

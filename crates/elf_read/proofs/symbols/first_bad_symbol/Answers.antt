@@ -1,10 +1,10 @@
-use Rattle.std.proofs.Common.{◌≡◌, ◌<◌, ◌≤◌, ◌+◌, ◌*◌, ◌/◌, ◌||◌, ℕ, Bool, not, eqb, Some, None, ap, sym, ◌∙◌, arith, subst}
-use Rattle.elf_model.specs.Constants.{symtab, local}
+use Rattle.std.proofs.Common.{◌≡◌, ◌≤◌, ◌+◌, ◌*◌, ◌/◌, ◌||◌, ℕ, Bool, not, eqb, Some, None, ap, sym, ◌∙◌, arith, subst}
+use Rattle.elf_model.specs.Constants.{local}
 use Rattle.elf_model.specs.Fields.{byte_at}
-use Rattle.elf_model.specs.Files.{header, IsKind}
+use Rattle.elf_model.specs.Files.{Header, header}
 use Rattle.elf_read.specs.Places.{first_of}
-use Rattle.elf_read.proofs.SymbolTable.{table_kind, table_none, symbol_inside, some_headers}
-use Rattle.elf_read.proofs.BadSymbols.{tests_of, place_in, bind_at, others_more, small_field, sound_more, all_sound, first_symbol, no_symbols, same_tests}
+use Rattle.elf_read.proofs.SymbolTable.{table_kind, table_none, symbol_here, some_headers}
+use Rattle.elf_read.proofs.BadSymbols.{tests_of, bind_at, others_more, small_field, sound_more, all_sound, first_symbol, no_symbols, same_tests}
 use Rattle.elf_read.proofs.symbols.first_bad_symbol.Goals as goal
 use Rattle.elf_read.proofs.symbols.first_bad_symbol.Goals.{then-seen, else-seen}
 
@@ -12,89 +12,57 @@ pub returns-in_default : goal.returns-in_default
 returns-in_default c = λ l. no_symbols c.args.bytes.now l (table_none c.args.bytes.now (sym c.in_default.is ∙ c.symtab_of.ensures))
 
 pub header_at-f-requires-clause-listed : goal.header_at-f-requires-clause-listed
-header_at-f-requires-clause-listed c =
-    let kind : IsKind c.args.bytes.now c.in-Some.t symtab = table_kind c.args.bytes.now c.in-Some.t (sym c.in-Some.is ∙ c.symtab_of.ensures) in
-    kind.1
+header_at-f-requires-clause-listed c = (table_kind c.args.bytes.now c.in-Some.t (sym c.in-Some.is ∙ c.symtab_of.ensures)).1
 
 pub header_at-f-requires-clause-headers : goal.header_at-f-requires-clause-headers
 header_at-f-requires-clause-headers c =
-    let kind : IsKind c.args.bytes.now c.in-Some.t symtab = table_kind c.args.bytes.now c.in-Some.t (sym c.in-Some.is ∙ c.symtab_of.ensures) in
-    some_headers c.args.bytes.now c.in-Some.t symtab c.requires.tabled kind
+    some_headers c.args.bytes.now c.in-Some.t _ c.requires.tabled (table_kind c.args.bytes.now c.in-Some.t (sym c.in-Some.is ∙ c.symtab_of.ensures))
 
 pub symbol_fault-requires-clause-inside : goal.symbol_fault-requires-clause-inside
 symbol_fault-requires-clause-inside c =
-    let b = c.args.bytes.now in
-    let t = c.in-Some.t in
-    let k = c.loop-k.k in
-    let kind : IsKind b t symtab = table_kind b t (sym c.in-Some.is ∙ c.symtab_of.ensures) in
-    let offset : c.header_at-f.result.offset ≡ (header b t).offset = ap (λ x. x.offset) c.header_at-f.ensures in
-    let size : c.header_at-f.result.size ≡ (header b t).size = ap (λ x. x.size) c.header_at-f.ensures in
-    let there : k < (header b t).size / 16 = subst (λ (x : ℕ). k < x / 16) size c.loop-k-test.true in
-    omega (arith, symbol_inside b t k c.requires.tabled kind there, offset)
+    let here = symbol_here c.args.bytes.now c.in-Some.t c.loop-k.k _ c.requires.tabled (sym c.in-Some.is ∙ c.symtab_of.ensures) c.header_at-f.ensures c.loop-k-test.true in
+    omega (arith, here.inside)
 
 pub overflow_cast-offset : goal.overflow_cast-offset
 overflow_cast-offset c =
-    let b = c.args.bytes.now in
-    let t = c.in-Some.t in
-    let k = c.loop-k.k in
-    let kind : IsKind b t symtab = table_kind b t (sym c.in-Some.is ∙ c.symtab_of.ensures) in
-    let offset : c.header_at-f.result.offset ≡ (header b t).offset = ap (λ x. x.offset) c.header_at-f.ensures in
-    let size : c.header_at-f.result.size ≡ (header b t).size = ap (λ x. x.size) c.header_at-f.ensures in
-    let there : k < (header b t).size / 16 = subst (λ (x : ℕ). k < x / 16) size c.loop-k-test.true in
-    omega (arith, symbol_inside b t k c.requires.tabled kind there, offset)
+    let here = symbol_here c.args.bytes.now c.in-Some.t c.loop-k.k _ c.requires.tabled (sym c.in-Some.is ∙ c.symtab_of.ensures) c.header_at-f.ensures c.loop-k-test.true in
+    omega (arith, here.inside)
 
 pub overflow_add-offset : goal.overflow_add-offset
 overflow_add-offset c =
     let b = c.args.bytes.now in
     let t = c.in-Some.t in
     let k = c.loop-k.k in
-    let kind : IsKind b t symtab = table_kind b t (sym c.in-Some.is ∙ c.symtab_of.ensures) in
-    let offset : c.header_at-f.result.offset ≡ (header b t).offset = ap (λ x. x.offset) c.header_at-f.ensures in
-    let size : c.header_at-f.result.size ≡ (header b t).size = ap (λ x. x.size) c.header_at-f.ensures in
-    let there : k < (header b t).size / 16 = subst (λ (x : ℕ). k < x / 16) size c.loop-k-test.true in
-    let place : c.header_at-f.result.offset + 16 * k ≡ place_in b t k = ap (λ (x : ℕ). x + 16 * k) offset in
+    let here = symbol_here c.args.bytes.now c.in-Some.t c.loop-k.k _ c.requires.tabled (sym c.in-Some.is ∙ c.symtab_of.ensures) c.header_at-f.ensures c.loop-k-test.true in
     let at : Some c.in-Some-symbol_fault.field ≡ first_of (tests_of b t k) =
-    same_tests b t k (c.header_at-f.result.offset + 16 * k) c.loop-k.seen _ (sym c.in-Some-symbol_fault.is ∙ c.symbol_fault.ensures) c.loop-k.invariant.seen place in
-    omega (arith, symbol_inside b t k c.requires.tabled kind there, offset, small_field b t k c.in-Some-symbol_fault.field at)
+    same_tests b t k (c.header_at-f.result.offset + 16 * k) c.loop-k.seen _ (sym c.in-Some-symbol_fault.is ∙ c.symbol_fault.ensures) c.loop-k.invariant.seen here.place in
+    omega (arith, here.inside, small_field b t k c.in-Some-symbol_fault.field at)
 
 pub bounds-bytes-at : goal.bounds-bytes-at
 bounds-bytes-at c =
-    let b = c.args.bytes.now in
-    let t = c.in-Some.t in
-    let k = c.loop-k.k in
-    let kind : IsKind b t symtab = table_kind b t (sym c.in-Some.is ∙ c.symtab_of.ensures) in
-    let offset : c.header_at-f.result.offset ≡ (header b t).offset = ap (λ x. x.offset) c.header_at-f.ensures in
-    let size : c.header_at-f.result.size ≡ (header b t).size = ap (λ x. x.size) c.header_at-f.ensures in
-    let there : k < (header b t).size / 16 = subst (λ (x : ℕ). k < x / 16) size c.loop-k-test.true in
-    omega (arith, symbol_inside b t k c.requires.tabled kind there, offset)
+    let here = symbol_here c.args.bytes.now c.in-Some.t c.loop-k.k _ c.requires.tabled (sym c.in-Some.is ∙ c.symtab_of.ensures) c.header_at-f.ensures c.loop-k-test.true in
+    omega (arith, here.inside)
 
 pub returns-in-Some-symbol_fault : goal.returns-in-Some-symbol_fault
 returns-in-Some-symbol_fault c = λ l.
     let b = c.args.bytes.now in
     let t = c.in-Some.t in
     let k = c.loop-k.k in
-    let kind : IsKind b t symtab = table_kind b t (sym c.in-Some.is ∙ c.symtab_of.ensures) in
-    let offset : c.header_at-f.result.offset ≡ (header b t).offset = ap (λ x. x.offset) c.header_at-f.ensures in
-    let size : c.header_at-f.result.size ≡ (header b t).size = ap (λ x. x.size) c.header_at-f.ensures in
-    let there : k < (header b t).size / 16 = subst (λ (x : ℕ). k < x / 16) size c.loop-k-test.true in
-    let place : c.header_at-f.result.offset + 16 * k ≡ place_in b t k = ap (λ (x : ℕ). x + 16 * k) offset in
+    let here = symbol_here c.args.bytes.now c.in-Some.t c.loop-k.k _ c.requires.tabled (sym c.in-Some.is ∙ c.symtab_of.ensures) c.header_at-f.ensures c.loop-k-test.true in
     let at : Some c.in-Some-symbol_fault.field ≡ first_of (tests_of b t k) =
-    same_tests b t k (c.header_at-f.result.offset + 16 * k) c.loop-k.seen _ (sym c.in-Some-symbol_fault.is ∙ c.symbol_fault.ensures) c.loop-k.invariant.seen place in
-    first_symbol b l t k c.in-Some-symbol_fault.field (c.header_at-f.result.offset + 16 * k) c.requires.tabled kind (omega arith) there place c.loop-k.invariant.sound at
+    same_tests b t k (c.header_at-f.result.offset + 16 * k) c.loop-k.seen _ (sym c.in-Some-symbol_fault.is ∙ c.symbol_fault.ensures) c.loop-k.invariant.seen here.place in
+    first_symbol b l t k c.in-Some-symbol_fault.field (c.header_at-f.result.offset + 16 * k) c.requires.tabled here.kind (omega arith) here.there here.place c.loop-k.invariant.sound at
 
 pub loop-k-preserved : goal.loop-k-preserved
 loop-k-preserved c =
     let b = c.args.bytes.now in
     let t = c.in-Some.t in
     let k = c.loop-k.k in
-    let kind : IsKind b t symtab = table_kind b t (sym c.in-Some.is ∙ c.symtab_of.ensures) in
-    let offset : c.header_at-f.result.offset ≡ (header b t).offset = ap (λ x. x.offset) c.header_at-f.ensures in
-    let size : c.header_at-f.result.size ≡ (header b t).size = ap (λ x. x.size) c.header_at-f.ensures in
-    let place : c.header_at-f.result.offset + 16 * k ≡ place_in b t k = ap (λ (x : ℕ). x + 16 * k) offset in
+    let here = symbol_here c.args.bytes.now c.in-Some.t c.loop-k.k _ c.requires.tabled (sym c.in-Some.is ∙ c.symtab_of.ensures) c.header_at-f.ensures c.loop-k-test.true in
     let at : None ≡ first_of (tests_of b t k) =
-    same_tests b t k (c.header_at-f.result.offset + 16 * k) c.loop-k.seen _ (sym c.in_default-symbol_fault.is ∙ c.symbol_fault.ensures) c.loop-k.invariant.seen place in
+    same_tests b t k (c.header_at-f.result.offset + 16 * k) c.loop-k.seen _ (sym c.in_default-symbol_fault.is ∙ c.symbol_fault.ensures) c.loop-k.invariant.seen here.place in
     let info = byte_at b (c.header_at-f.result.offset + 16 * k + 12) in
-    let bind : info / 16 ≡ bind_at b t k = ap (λ (x : ℕ). byte_at b (x + 12) / 16) place in
+    let bind : info / 16 ≡ bind_at b t k = ap (λ (x : ℕ). byte_at b (x + 12) / 16) here.place in
     let step = others_more b t k info c.loop-k.seen (omega arith) bind c.loop-k.invariant.seen in
     record {
       seen =
@@ -109,9 +77,5 @@ pub returns : goal.returns
 returns c = λ l.
     let b = c.args.bytes.now in
     let t = c.in-Some.t in
-    let k = c.loop-k.k in
-    let kind : IsKind b t symtab = table_kind b t (sym c.in-Some.is ∙ c.symtab_of.ensures) in
-    let offset : c.header_at-f.result.offset ≡ (header b t).offset = ap (λ x. x.offset) c.header_at-f.ensures in
-    let size : c.header_at-f.result.size ≡ (header b t).size = ap (λ x. x.size) c.header_at-f.ensures in
-    let past : (header b t).size / 16 ≤ k = subst (λ (x : ℕ). x / 16 ≤ k) size c.loop-k-test.false in
-    all_sound b l t k c.requires.tabled kind past c.loop-k.invariant.sound
+    let past : (header b t).size / 16 ≤ c.loop-k.k = subst (λ (x : Header). x.size / 16 ≤ c.loop-k.k) c.header_at-f.ensures c.loop-k-test.false in
+    all_sound b l t c.loop-k.k c.requires.tabled (table_kind b t (sym c.in-Some.is ∙ c.symtab_of.ensures)) past c.loop-k.invariant.sound

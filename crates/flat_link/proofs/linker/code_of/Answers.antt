@@ -24,7 +24,7 @@ returns c =
       bytes = c.in_ok-bytes.ensures;
       marks = c.new.ensures.items;
       stops = λ a.
-          subst (λ (t : List (Option ℕ)). Contains c.in_ok-stops.stops.items a ↔ Contains ((function_stops t c.args.symbols.now ++ data_stops t c.args.symbols.now 0 c.args.symbols.now) ++ end_stops c.args.at.now.base c.args.sections.now) a)
+          subst (λ (t : List (Option ℕ)). Contains c.in_ok-stops.stops.items a ↔ Contains ((function_stops t c.args.symbols.now ++ data_stops t c.args.symbols.now c.args.symbols.now) ++ end_stops c.args.at.now.base c.args.sections.now) a)
           c.requires.starts (c.in_ok-stops.ensures.same a);
       rise = c.in_ok-stops.ensures.rise;
     })

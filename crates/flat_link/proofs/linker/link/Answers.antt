@@ -8,7 +8,8 @@ use Rattle.elf_model.specs.declared.objects.Symbol.{Symbol}
 use Rattle.elf_model.specs.Objects.{ObjectParts, is_section, is_symbol, is_reloc, is_version_5, locals_first, rise, is_object}
 use Rattle.thumb_table.specs.Images.{IsImage}
 use Rattle.flat_link.specs.Made.{IsLinked}
-use Rattle.flat_link.specs.Refusals.{IsOneDenial, IsLinkDenial}
+use Rattle.flat_link.specs.Refusals.{IsOneDenial}
+use Rattle.thumb_table.specs.LinkFaults.{IsLinkDenial}
 use Rattle.flat_link.proofs.ImageFacts.{image_is}
 use Rattle.flat_link.proofs.RefusalFacts.{denial_is}
 use Rattle.flat_link.proofs.linker.link.Goals as goal
@@ -42,9 +43,10 @@ pub returns-clause-refused : goal.returns-clause-refused
 returns-clause-refused c =
     let o = c.index-objects-0.result in
     let whole = single c.args.objects.now o c.requires.one c.index-objects-0.is in
+    let plain = subst (λ (x : ObjectParts). x.relocs ≡ []) (sym c.index-objects-0.is) (c.requires.plain 0 o (omega arith)) in
     subst (λ (l : List ObjectParts). IfErr c.link_one.result (λ why. IsLinkDenial l c.args.at.now why)) whole
     (IfErr-weaker c.link_one.result _ _
-    (λ why h. denial_is o c.args.at.now why (good o c.sound.ensures)
+    (λ why h. denial_is o c.args.at.now why (good o c.sound.ensures) plain
     (subst (λ (l : List Section). IsOneDenial l o.symbols c.args.at.now why) c.sections.ensures
     (subst (λ (l : List Symbol). IsOneDenial c.sections.result.now l c.args.at.now why) c.symbols.ensures h)))
     c.link_one.ensures.refused)

@@ -1,7 +1,8 @@
 use Rattle.std.proofs.Common.{◌≡◌, ◌+◌, Bool, ℕ, ap, ◌∙◌, sym, subst, arith}
 use Rattle.std.specs.Prelude.{◌&&◌, ◌||◌, Option, Some}
 use Rattle.elf_model.specs.Fields.{same_name}
-use Rattle.flat_link.specs.Symbols.{is_global, is_second, home_section, earlier, IsFirstSecond}
+use Rattle.thumb_table.specs.LinkFaults.{home_section}
+use Rattle.flat_link.specs.Symbols.{is_global, is_second, earlier, IsFirstSecond}
 use Rattle.flat_link.proofs.NameFacts.{named_more, first_more, first_same}
 use Rattle.flat_link.proofs.names.global_names.Goals as goal
 use Rattle.flat_link.proofs.names.global_names.Goals.{then-branch, else-branch}

@@ -1,5 +1,5 @@
 use Rattle.std.proofs.Common.{◌≡◌, ◌++◌, drop}
-use Rattle.thumb_table.specs.Images.{bytes_from}
+use Rattle.thumb_table.specs.Layouts.{bytes_from}
 use Rattle.flat_link.specs.Placing.{end_of, parts_from}
 use Rattle.flat_link.proofs.sections.bytes_of.Given as goal
 

@@ -1,5 +1,5 @@
 use Rattle.std.proofs.Common.{◌≡◌, ◌≤◌, ◌++◌, map, drop}
-use Rattle.thumb_table.specs.Images.{as_part}
+use Rattle.thumb_table.specs.Layouts.{as_part}
 use Rattle.flat_link.specs.Placing.{end_of, parts_from}
 use Rattle.flat_link.proofs.sections.push_parts.Given as goal
 

@@ -2,5 +2,5 @@ use Rattle.std.proofs.Common.{◌≡◌, ◌++◌, drop}
 use Rattle.flat_link.specs.Symbols.{data_stops}
 use Rattle.flat_link.proofs.stops.push_data.Given as goal
 
-abbrev pub invariant-loop-k : goal.invariant-loop-k
-invariant-loop-k l = l.stops.items ++ data_stops l.starts l.symbols l.k (drop l.k l.symbols) ≡ l.fn.stops.items ++ data_stops l.starts l.symbols 0 l.symbols
+abbrev pub invariant-loop-s : goal.invariant-loop-s
+invariant-loop-s l = l.stops.items ++ data_stops l.starts l.symbols (drop l.s-index l.symbols) ≡ l.fn.stops.items ++ data_stops l.starts l.symbols l.symbols

@@ -1,5 +1,4 @@
-use Rattle.std.proofs.Common.{refl, sym, ◌∙◌}
-use Rattle.std.proofs.lemmas.Bool.{true≢false}
+use Rattle.std.proofs.Common.{refl}
 use Rattle.flow_recover.proofs.EdgeFacts.{next_there, next_stops, next_none}
 use Rattle.flow_recover.proofs.edges.next_of.Goals as goal
 
@@ -8,9 +7,8 @@ returns-in_err-i c = next_none c.args.o.now c.args.n c.in_err-i.ensures.exact c.
 
 pub returns-then-goes_on : goal.returns-then-goes_on
 returns-then-goes_on c =
-    next_there c.args.o.now c.args.n c.in_ok-i.i ((c.in_ok-i.ensures.exact c.in_ok-i.i).0 refl) c.start_behind.result (c.goes_on.ensures.0 c.if-goes_on.true) c.start_behind.ensures
+    next_there c.args.o.now c.args.n c.in_ok-i.i ((c.in_ok-i.ensures.exact c.in_ok-i.i).0 refl) c.start_behind.result (c.goes_on.ensures.goes c.if-goes_on.true) c.start_behind.ensures
 
 pub returns-else-goes_on : goal.returns-else-goes_on
 returns-else-goes_on c =
-    next_stops c.args.o.now c.args.n c.in_ok-i.i ((c.in_ok-i.ensures.exact c.in_ok-i.i).0 refl)
-    (λ g. true≢false (sym (c.goes_on.ensures.1 g) ∙ c.if-goes_on.false))
+    next_stops c.args.o.now c.args.n c.in_ok-i.i ((c.in_ok-i.ensures.exact c.in_ok-i.i).0 refl) (c.goes_on.ensures.ends c.if-goes_on.false)

@@ -5,5 +5,5 @@ use Rattle.flow_recover.proofs.edges.start_behind.Goals as goal
 
 pub returns : goal.returns
 returns c =
-    started_behind c.args.o.now (λ j x. get place_cmp c.args.chart.now.starts (j, x)) c.requires.chart.starts c.args.n c.args.i.now c.behind-offset.result c.state_behind.result c.started.result
-    c.behind-offset.ensures c.state_behind.ensures c.started.ensures
+    started_behind c.args.o.now (λ j x. get place_cmp c.args.chart.now.starts (j, x)) c.requires.chart.starts c.args.n c.node_behind.result c.args.i.now c.started.result
+    c.node_behind.ensures c.started.ensures

@@ -12,6 +12,11 @@ loaded_word-requires-clause-small c =
     let inside : IsInside c.args.o.now c.args.n.section c.args.n.offset c.requires.found.end = start_inside c.args.o.now _ _ _ c.sound.ensures c.requires.within c.requires.found.start in
     omega (arith, inside.before_end, inside.in_bytes, inside.small)
 
+pub next_index-requires-clause-low : goal.next_index-requires-clause-low
+next_index-requires-clause-low c =
+    let inside : IsInside c.args.o.now c.args.n.section c.args.n.offset c.requires.found.end = start_inside c.args.o.now _ _ _ c.sound.ensures c.requires.within c.requires.found.start in
+    omega (arith, inside.before_end, inside.in_bytes, inside.small)
+
 pub returns : goal.returns
 returns c = record {
   section = refl;

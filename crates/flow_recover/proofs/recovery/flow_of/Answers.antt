@@ -1,4 +1,5 @@
 use Rattle.std.proofs.Common.{arith}
+use Rattle.std.specs.BTreeMap.{get}
 use Rattle.std.specs.BTreeSet.{contains}
 use Rattle.code_ranges.specs.Spans.{place_cmp}
 use Rattle.flow_recover.proofs.WholeFlowFacts.{nodes_below, flow_made}
@@ -19,6 +20,6 @@ entries_of-requires c = nodes_below c.args.o.now c.args.nodes.now c.requires.nod
 
 pub returns : goal.returns
 returns c =
-    flow_made c.args.o.now c.args.nodes.now c.in_ok-places.places.items c.deref.result.now c.deref-2.result.now c.in_ok-points.points.items c.in_ok-words.words.items c.in_ok-entries.entries.items c.args.ranges.items c.new.result
-    (λ j x. contains place_cmp c.in_ok-entered.entered (j, x)) c.sound.ensures c.requires.within c.requires.nodes c.requires.faultless c.in_ok-places.ensures.exact c.deref.ensures.value c.deref-2.ensures.value
+    flow_made c.args.o.now (λ j x. get place_cmp c.args.chart.now.starts (j, x)) c.args.nodes.now c.in_ok-places.places.items c.deref.result.now c.deref-2.result.now c.in_ok-points.points.items c.in_ok-words.words.items c.in_ok-entries.entries.items c.args.ranges.items c.new.result
+    (λ j x. contains place_cmp c.in_ok-entered.entered (j, x)) c.requires.chart.starts c.sound.ensures c.requires.within c.requires.nodes c.requires.faultless c.in_ok-places.ensures.exact c.deref.ensures.value c.deref-2.ensures.value
     (c.in_ok-words.ensures c.args.o.now c.requires.chart) c.in_ok-points.ensures c.in_ok-entered.ensures c.in_ok-entries.ensures c.requires.ranges c.new.ensures

@@ -4,7 +4,11 @@ use Rattle.guard_cli.specs.MachineRuns.{run_work}
 use Rattle.guard_cli.specs.Steps.{call_by, IsMadeAs}
 use Rattle.guard_cli.proofs.Carried.{made_saying}
 use Rattle.guard_cli.proofs.RunAnswered.{IsRunMade, run_made}
+use Rattle.guard_cli.proofs.SameImages.{can_run}
 use Rattle.guard_cli.proofs.run.decide.Goals as goal
+
+pub run_command-requires-clause-can : goal.run_command-requires-clause-can
+run_command-requires-clause-can c = can_run (c.in_ok-object.object ∷ []) c.args.command.now.at c.in_ok-image.image c.in_ok-image.ensures.image
 
 pub returns-clause-made : goal.returns-clause-made
 returns-clause-made c =

@@ -4,11 +4,11 @@ use Rattle.mark_word.specs.Words.{Word, plain}
 use Rattle.thumb_table.specs.declared.cores.Core.{Core as Registers}
 use Rattle.std.specs.Prelude.{◌↔◌}
 use Rattle.thumb_table.specs.Parts.{Memory}
-use Rattle.thumb_table.specs.Images.{start}
-use Rattle.thumb_table.specs.Schedules.{is_in}
-use Rattle.skip_machine.specs.Machines.{state, started, OrdinarySteps}
-use Rattle.guard_cli.specs.MachineRuns.{Stops}
-use Rattle.guard_cli.proofs.RunFinished.{IsFresh, stops_of, ordinary_of}
+use Rattle.thumb_table.specs.Calls.{start, started}
+use Rattle.thumb_table.specs.Schedules.{is_in, OrdinaryRun}
+use Rattle.skip_machine.specs.Machines.{state}
+use Rattle.skip_machine.specs.Runs.{RunEnds}
+use Rattle.guard_cli.proofs.RunFinished.{IsFresh, ends_of, ordinary_of}
 use Rattle.guard_cli.proofs.run.run_image.Goals as goal
 
 pub returns : goal.returns
@@ -27,12 +27,12 @@ returns c =
     } in
     record {
       ended = state last;
-      stops = subst (λ (n : ℕ). Stops image.code schedule most begun c.run-outcome.result n (state last)) (sym c.steps.ensures)
-          (stops_of schedule most first last image.code begun c.run-outcome.result fresh c.run-outcome.ensures);
+      ends = subst (λ (n : ℕ). RunEnds image.code (is_in schedule) most 0 begun c.run-outcome.result n (state last)) (sym c.steps.ensures)
+          (ends_of (is_in schedule) most first last image.code begun c.run-outcome.result fresh c.run-outcome.ensures);
       r0_is = c.bits.ensures
           ∙ ap (λ (w : Word). w.bits) (get_or_default c.registers.result.now.r 0 c.index-registers-0.result (plain 0) (omega arith))
           ∙ ap (λ (k : Registers). (get_or k.r 0 (plain 0)).bits) c.registers.ensures;
-      ordinary_is = subst (λ (n : ℕ). (c.is_ordinary.result ≡ true) ↔ OrdinarySteps image.code (is_in schedule) n 0 begun) (sym c.steps.ensures)
-          (subst (λ (b : Bool). (b ≡ true) ↔ OrdinarySteps image.code (is_in schedule) last.steps 0 begun) (sym c.is_ordinary.ensures)
-          (ordinary_of schedule most first last image.code begun c.run-outcome.result fresh c.run-outcome.ensures));
+      ordinary_is = subst (λ (n : ℕ). (c.is_ordinary.result ≡ true) ↔ OrdinaryRun image.code (is_in schedule) n 0 begun) (sym c.steps.ensures)
+          (subst (λ (b : Bool). (b ≡ true) ↔ OrdinaryRun image.code (is_in schedule) last.steps 0 begun) (sym c.is_ordinary.ensures)
+          (ordinary_of (is_in schedule) most first last image.code begun c.run-outcome.result fresh c.run-outcome.ensures));
     }

@@ -1,6 +1,6 @@
 use Rattle.std.proofs.Common.{subst}
 use Rattle.std.proofs.lemmas.Bool.{false≢true}
-use Rattle.thumb_table.specs.Images.{IsPlacement}
+use Rattle.thumb_table.specs.Layouts.{IsPlacement}
 use Rattle.guard_cli.proofs.NumberTexts.{number_given}
 use Rattle.guard_cli.proofs.OneMeaning.{placement_is}
 use Rattle.guard_cli.proofs.settings.placement_of.Goals as goal

@@ -1,6 +1,6 @@
 use Rattle.std.proofs.Common.{ap}
 use Rattle.std.specs.Option.{option_copied}
-use Rattle.guard_cli.proofs.PlanSteps.{empty_schedule}
+use Rattle.guard_cli.proofs.Schedules.{empty_schedule}
 use Rattle.guard_cli.proofs.settings.schedule_of.Goals as goal
 
 pub returns-in-None-None : goal.returns-in-None-None

@@ -1,7 +1,7 @@
 use Rattle.std.proofs.Common.{◌≡◌, Some, sym}
 use Rattle.thumb_table.specs.Steps.{fetch}
 use Rattle.skip_machine.specs.Fetches.{as_fetched}
-use Rattle.thumb_table.specs.Views.{state_of}
+use Rattle.thumb_table.specs.CoreStates.{state_of}
 use Rattle.skip_machine.proofs.Moving.{executed_ordinary}
 use Rattle.skip_machine.proofs.moves.make_move.Goals as goal
 

@@ -1,10 +1,11 @@
 use Rattle.std.proofs.Common.{◌≡◌, ◌∙◌, true, false, refl, sym, ap}
 use Rattle.std.proofs.lemmas.Result.{IfErr-weaker, on_ok_weaker}
 use Rattle.thumb_instr.specs.Fields.{AccessFields}
-use Rattle.thumb_table.specs.Views.{site_of, is_load, stored_cells}
+use Rattle.thumb_table.specs.CoreStates.{site_of}
+use Rattle.thumb_table.specs.Views.{is_load, stored_cells}
 use Rattle.thumb_table.specs.Effects.{lies_in, size_of}
 use Rattle.thumb_table.specs.States.{read}
-use Rattle.thumb_table.specs.Views.{alone}
+use Rattle.thumb_table.specs.CoreStates.{alone}
 use Rattle.thumb_table.proofs.AccessLemmas.{Found, access_beyond, access_load, access_store}
 use Rattle.thumb_table.proofs.accesses.apply_access.Goals as goal
 

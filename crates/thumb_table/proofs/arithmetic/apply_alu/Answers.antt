@@ -4,7 +4,7 @@ use Rattle.thumb_table.specs.Parts.{Memory}
 use Rattle.thumb_table.specs.States.{Site, Outcome, upright}
 use Rattle.thumb_table.specs.Values.{computed}
 use Rattle.thumb_table.specs.Effects.{change, operand, value, writing, with_flags}
-use Rattle.thumb_table.specs.Views.{core_of}
+use Rattle.thumb_table.specs.CoreStates.{core_of}
 use Rattle.thumb_table.proofs.ResultLemmas.{operand_alone, makes_of, stops_of}
 use Rattle.thumb_table.proofs.arithmetic.apply_alu.Goals as goal
 

@@ -3,7 +3,7 @@ use Rattle.thumb_instr.specs.declared.instructions.Instr.TheVariants as instr
 use Rattle.thumb_table.specs.Parts.{Memory}
 use Rattle.thumb_table.specs.States.{Site, Outcome, upright}
 use Rattle.thumb_table.specs.Effects.{change, operand, moved_word, writing, with_flags}
-use Rattle.thumb_table.specs.Views.{core_of}
+use Rattle.thumb_table.specs.CoreStates.{core_of}
 use Rattle.thumb_table.proofs.ResultLemmas.{operand_alone, moved_alone, makes_of, stops_of}
 use Rattle.thumb_table.proofs.arithmetic.apply_move.Goals as goal
 
@@ -17,7 +17,7 @@ returns c =
     let same : (site : Site) (m : Memory) → change (instr.Move given) site (core_of s m) ≡ outcome = λ site m.
     let word : moved_word i.op i.x (core_of s m) ≡ c.moved_word-word.result = cc (moved_alone i.op i.x s m) in
     let carry : (operand i.x (core_of s m)).carry ≡ c.operand_value-x.result.carry = cc (operand_alone i.x s m) in
-    rw (← c.i.view_is, word, carry, c.logical-r.ensures, c.bits.ensures) refl in
+    rw (← c.i.view_is, word, carry, c.logical-r.ensures, c.bits.ensures, c.carry.ensures) refl in
     record {
       done = makes_of (instr.Move given) outcome c.args.next s c.write_flagged.new.s c.write_flagged.result same c.write_flagged.ensures.done;
       fault = stops_of (instr.Move given) outcome c.args.next s c.write_flagged.new.s c.write_flagged.result same c.write_flagged.ensures.fault;

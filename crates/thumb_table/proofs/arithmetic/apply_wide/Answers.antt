@@ -3,7 +3,7 @@ use Rattle.thumb_instr.specs.declared.instructions.Instr.TheVariants as instr
 use Rattle.thumb_table.specs.Parts.{Memory}
 use Rattle.thumb_table.specs.States.{Site, Outcome, upright}
 use Rattle.thumb_table.specs.Effects.{change, wide_value, value, writing}
-use Rattle.thumb_table.specs.Views.{core_of}
+use Rattle.thumb_table.specs.CoreStates.{core_of}
 use Rattle.thumb_table.proofs.ResultLemmas.{makes_of, stops_of}
 use Rattle.thumb_table.proofs.arithmetic.apply_wide.Goals as goal
 

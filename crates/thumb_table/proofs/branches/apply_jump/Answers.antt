@@ -1,6 +1,6 @@
 use Rattle.std.proofs.Common.{◌≡◌, ◌%◌, ◌∙◌, eq-eqb, sym, refl}
 use Rattle.thumb_table.specs.Effects.{change, value}
-use Rattle.thumb_table.specs.Views.{core_of}
+use Rattle.thumb_table.specs.CoreStates.{core_of}
 use Rattle.thumb_table.proofs.MarkLemmas.{differs}
 use Rattle.thumb_table.proofs.branches.apply_jump.Goals as goal
 

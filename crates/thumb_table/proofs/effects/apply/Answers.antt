@@ -1,7 +1,7 @@
 use Rattle.std.proofs.Common.{◌≡◌, ◌∙◌, true, sym}
 use Rattle.thumb_instr.specs.Blocks.{block_condition}
 use Rattle.thumb_table.specs.Steps.{takes_effect}
-use Rattle.thumb_table.specs.Views.{core_of, width_of}
+use Rattle.thumb_table.specs.CoreStates.{core_of, width_of}
 use Rattle.thumb_table.proofs.BranchLemmas.{holds_alone}
 use Rattle.thumb_table.proofs.effects.apply.Goals as goal
 

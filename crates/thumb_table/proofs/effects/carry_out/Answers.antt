@@ -1,7 +1,7 @@
 use Rattle.std.proofs.Common.{refl}
 use Rattle.std.proofs.lemmas.Result.{IfErr-weaker, on_ok_weaker}
 use Rattle.thumb_table.specs.Effects.{change}
-use Rattle.thumb_table.specs.Views.{site_of}
+use Rattle.thumb_table.specs.CoreStates.{site_of}
 use Rattle.thumb_table.proofs.effects.carry_out.Goals as goal
 
 pub returns-in-Alu-clause-done : goal.returns-in-Alu-clause-done

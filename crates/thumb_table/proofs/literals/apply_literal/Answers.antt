@@ -1,4 +1,4 @@
-use Rattle.std.proofs.Common.{◌≡◌, true, false, refl}
+use Rattle.std.proofs.Common.{◌≡◌, ◌∙◌, true, false, refl, sym}
 use Rattle.std.proofs.lemmas.Result.{IfErr-weaker, on_ok_weaker}
 use Rattle.thumb_table.specs.Effects.{change, lies}
 use Rattle.thumb_table.proofs.literals.apply_literal.Goals as goal
@@ -13,10 +13,10 @@ pub returns-clause-done : goal.returns-clause-done
 unfolding change
 returns-clause-done c =
     let lies : lies c.args.code.now c.literal_address-address.result 4 ≡ true = rw (← c.holds.ensures) c.if-not-holds.false in
-    on_ok_weaker c.put.result (λ leads m width e. rw (← c.literal_address-address.ensures, lies, ← c.literal.ensures, ← c.i.view_is) (leads m)) c.put.ensures.done
+    on_ok_weaker c.write_word.result (λ leads m width e. rw (← c.literal_address-address.ensures, lies, ← c.literal.ensures, ← c.i.view_is) (leads m)) c.write_word.ensures.done
 
 pub returns-clause-fault : goal.returns-clause-fault
 unfolding change
 returns-clause-fault c =
     let lies : lies c.args.code.now c.literal_address-address.result 4 ≡ true = rw (← c.holds.ensures) c.if-not-holds.false in
-    IfErr-weaker c.put.result _ _ (λ kind fails. (λ m width e. rw (← c.literal_address-address.ensures, lies, ← c.literal.ensures, ← c.i.view_is, fails.0) refl, fails.1)) c.put.ensures.fault
+    IfErr-weaker c.write_word.result _ _ (λ kind fails. (λ m width e. rw (← c.literal_address-address.ensures, lies, ← c.literal.ensures, ← c.i.view_is, fails.0) refl, fails.1)) c.write_word.ensures.fault

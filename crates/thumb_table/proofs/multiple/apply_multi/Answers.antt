@@ -1,6 +1,7 @@
 use Rattle.std.proofs.Common.{refl}
 use Rattle.std.proofs.lemmas.Result.{IfErr-weaker, on_ok_weaker}
-use Rattle.thumb_table.specs.Views.{site_of, core_of, list_outcome}
+use Rattle.thumb_table.specs.CoreStates.{site_of, core_of}
+use Rattle.thumb_table.specs.Views.{list_outcome}
 use Rattle.thumb_table.proofs.MultiLemmas.{multi_change}
 use Rattle.thumb_table.proofs.multiple.apply_multi.Goals as goal
 

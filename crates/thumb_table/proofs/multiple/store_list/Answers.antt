@@ -4,7 +4,7 @@ use Rattle.mark_word.specs.Marks.{pieces}
 use Rattle.thumb_instr.specs.Operands.{has}
 use Rattle.thumb_table.specs.States.{read, store_all}
 use Rattle.thumb_table.specs.Effects.{lies_in, from, stored}
-use Rattle.thumb_table.specs.Views.{alone}
+use Rattle.thumb_table.specs.CoreStates.{alone}
 use Rattle.thumb_table.proofs.ListLemmas.{rest, rest_first, rest_last, rest_has, rest_lacks, store_step, length_stored}
 use Rattle.thumb_table.proofs.MemoryLemmas.{lies_where}
 use Rattle.thumb_table.proofs.multiple.store_list.Goals as goal

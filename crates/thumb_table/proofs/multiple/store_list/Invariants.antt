@@ -1,7 +1,7 @@
 use Rattle.std.proofs.Common.{◌≡◌, ◌+◌, ◌*◌, ◌≤◌, length}
 use Rattle.thumb_table.specs.Effects.{registers, stored}
 use Rattle.thumb_table.specs.States.{store_all}
-use Rattle.thumb_table.specs.Views.{alone}
+use Rattle.thumb_table.specs.CoreStates.{alone}
 use Rattle.thumb_table.proofs.ListLemmas.{rest}
 use Rattle.thumb_table.proofs.multiple.store_list.Given as goal
 

@@ -1,7 +1,7 @@
 use Rattle.std.proofs.Common.{ℕ, ◌∷◌}
 use Rattle.thumb_table.specs.States.{read}
 use Rattle.thumb_table.specs.Ordinary.{IsPlain, in_place, in_part}
-use Rattle.thumb_table.specs.Views.{alone}
+use Rattle.thumb_table.specs.CoreStates.{alone}
 use Rattle.thumb_table.proofs.OrdinaryLemmas.{then_both, else_none}
 use Rattle.thumb_table.proofs.ordinary.in_access.Goals as goal
 

@@ -1,7 +1,7 @@
 use Rattle.std.proofs.Common.{ℕ, [], ◌∷◌}
 use Rattle.thumb_table.specs.States.{read}
 use Rattle.thumb_table.specs.Ordinary.{IsPlain, in_sum}
-use Rattle.thumb_table.specs.Views.{alone}
+use Rattle.thumb_table.specs.CoreStates.{alone}
 use Rattle.thumb_table.proofs.OrdinaryLemmas.{then_both}
 use Rattle.thumb_table.proofs.ordinary.with_sum.Goals as goal
 

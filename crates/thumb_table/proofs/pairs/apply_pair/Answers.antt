@@ -1,6 +1,7 @@
 use Rattle.std.proofs.Common.{refl}
 use Rattle.std.proofs.lemmas.Result.{IfErr-weaker, on_ok_weaker}
-use Rattle.thumb_table.specs.Views.{site_of, core_of, pair_outcome}
+use Rattle.thumb_table.specs.CoreStates.{site_of, core_of}
+use Rattle.thumb_table.specs.Views.{pair_outcome}
 use Rattle.thumb_table.proofs.PairLemmas.{pair_change}
 use Rattle.thumb_table.proofs.pairs.apply_pair.Goals as goal
 

@@ -5,7 +5,7 @@ use Rattle.thumb_table.specs.Parts.{Memory}
 use Rattle.thumb_table.specs.States.{Site, Outcome, upright}
 use Rattle.thumb_table.specs.Values.{wrapped}
 use Rattle.thumb_table.specs.Effects.{change, value, writing, with_sign}
-use Rattle.thumb_table.specs.Views.{core_of}
+use Rattle.thumb_table.specs.CoreStates.{core_of}
 use Rattle.thumb_table.proofs.ResultLemmas.{makes_of, stops_of}
 use Rattle.thumb_table.proofs.products.apply_mul.Goals as goal
 

@@ -23,11 +23,24 @@ returns-in-Ok-Returned c =
     let skips = is_in c.args.plan.now in
     let skipped : c.holds-skipped.result ≡ skips mid.steps = cc in
     let made : Steps (skips mid.steps) mid c.step.new.self Returned = rw (skipped, c.in-Ok-Returned.field-0-is) at c.in-Ok-Returned.ensures.ok in
+    let went = further skips c.args.self.now mid c.step.new.self c.loop-i.i Returned c.loop-i.invariant.went c.loop-i.invariant.not_returned made in
     record {
       made = c.loop-i.i + 1;
-      some = omega arith;
-      within = omega arith;
-      went = further skips c.args.self.now mid c.step.new.self c.loop-i.i Returned c.loop-i.invariant.went c.loop-i.invariant.not_returned made;
-      returned = made.leaves.0;
-      stopped = made.leaves.1;
+      counted = went.counted;
+      same_code = went.same_code;
+      ends = (omega arith, record { some = omega arith; goes = went.goes; over = made.leaves.0 });
+      ordinary = went.ordinary;
+      running = made.leaves.1;
+    }
+
+pub returns : goal.returns
+returns c =
+    let went = c.loop-i.invariant.went in
+    record {
+      made = c.loop-i.i;
+      counted = went.counted;
+      same_code = went.same_code;
+      ends = (omega arith, record { goes = went.goes; still = c.loop-i.invariant.not_returned });
+      ordinary = went.ordinary;
+      running = c.loop-i.invariant.running;
     }

@@ -1,6 +1,6 @@
 use Rattle.std.proofs.Common.{◌≡◌, ◌≢◌, ◌<◌, true}
 use Rattle.thumb_table.specs.Schedules.{is_in, exit}
-use Rattle.skip_machine.specs.Runs.{Went}
+use Rattle.skip_machine.proofs.Further.{Went}
 use Rattle.skip_machine.proofs.machines.Machine.run.Given as goal
 
 abbrev pub invariant-loop-i : goal.invariant-loop-i

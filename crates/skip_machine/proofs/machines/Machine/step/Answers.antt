@@ -1,4 +1,4 @@
-use Rattle.thumb_table.specs.Views.{state_of}
+use Rattle.thumb_table.specs.CoreStates.{state_of}
 use Rattle.skip_machine.proofs.Sizes.{move_keeps, still_sound}
 use Rattle.skip_machine.proofs.machines.Machine.step.Goals as goal
 
