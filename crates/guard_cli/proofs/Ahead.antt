@@ -1,10 +1,8 @@
 -- A section is listed along its code ranges.
-use Rattle.std.proofs.Common.{◌≡◌, ◌<◌, ◌≤◌, ◌⊎◌, inl, inr, ℕ, ◌+◌, Bool, true, false, List, [], ◌∷◌, ◌++◌, length, refl, sym, ap, ◌∙◌, subst, arith, append-nil}
-use Rattle.elf_model.specs.declared.ranges.RangeKind.TheVariants.{Code}
+use Rattle.std.proofs.Common.{ℕ, List, [], ◌∷◌, length, subst, append-nil}
 use Rattle.elf_model.specs.Objects.{ObjectParts}
-use Rattle.elf_model.specs.Ranges.{IsRange}
 use Rattle.code_ranges.specs.declared.spans.Span.{Span}
-use Rattle.guard_cli.specs.Listings.{Listed, text_of_lines}
+use Rattle.guard_cli.specs.Listings.{Listed}
 use Rattle.guard_cli.specs.Listings.Listed.{ended}
 use Rattle.guard_cli.specs.ListingSteps.{LeadsTo, IsThrough, IsAcross, AreAhead, AreApart, ListsContents}
 use Rattle.guard_cli.proofs.Leading.{leads_nowhere, leads_on}

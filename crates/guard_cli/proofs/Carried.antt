@@ -1,18 +1,16 @@
 -- What a step knows, carried to the whole command.
-use Rattle.std.proofs.Common.{◌≡◌, ◌≢◌, ◌<◌, ◌≤◌, inl, inr, ℕ, List, [], length, Option, Some, None, IsTrue, refl, sym, ap, ◌∙◌, subst, arith}
+use Rattle.std.proofs.Common.{◌≡◌, ◌<◌, ◌≤◌, inl, inr, ℕ, List, [], ◌∷◌, length, Option, Some, None, Result, Ok, Err, IsTrue, refl, sym, ap, ◌∙◌, subst, arith}
+use Rattle.std.specs.Prelude.{IfOk}
 use Rattle.std.proofs.lemmas.List.{length-take, take_all}
-use Rattle.guard_io.specs.Outside.{Rose, IsLoaded, IsPartlySaved}
-use Rattle.elf_model.specs.declared.refusals.Spot.{Spot}
-use Rattle.elf_model.specs.declared.refusals.Limit.{Limit}
-use Rattle.elf_model.specs.declared.refusals.TheConstants.Limit.{INPUT}
-use Rattle.elf_model.specs.Objects.{ObjectParts}
+use Rattle.guard_io.specs.Outside.{Rose, IsLoaded}
+use Rattle.skip_machine.specs.declared.machines.Outcome.{Outcome}
 use Rattle.guard_cli.specs.declared.endings.Ending.{Ending}
 use Rattle.guard_cli.specs.declared.endings.Ending.TheVariants.{Done, Refused, Usage, ReadFault, WriteFault, PrintFault, NoMemory, Stopped}
-use Rattle.guard_cli.specs.Words.{Pair}
-use Rattle.guard_cli.specs.Runs.{Files, Screen, SameBut, Untouched, IsSaved, IsHalfSaved, IsUnsavedFor, IsRefusedFor, IsPut, IsHardenRefusal, IsRead, IsDone, EndsAs, output_of, report_of}
-use Rattle.guard_cli.specs.Inputs.{IsInputRefusal}
-use Rattle.guard_cli.specs.Outcomes.{IsDecided, ReportEndsAs, SaveEndsAs, LoadEndsAs}
-use Rattle.guard_cli.proofs.Promised.{promised}
+use Rattle.guard_cli.specs.declared.tasks.Made.{Made}
+use Rattle.guard_cli.specs.Moments.{Files, Screen, SameBut, Untouched, IsSaved}
+use Rattle.guard_cli.specs.Works.{Save, Work, AreLoaded}
+use Rattle.guard_cli.specs.Endings.{AreSaved, FinishesAs, HasLoaded, IsDecided, ComesTo}
+use Rattle.guard_cli.specs.Steps.{saves_of, IsMadeAs, IsMadeBy, IsSaving, IsSaying, MadeAsEndsAs, LoadFailsAs}
 
 -- A file of which less was loaded than might have been was loaded whole.
 pub loaded_whole : (content : Option (List ℕ)) (most : ℕ) (bytes : List ℕ) → IsLoaded content most bytes → length bytes < most → content ≡ Some bytes
@@ -22,83 +20,15 @@ loaded_whole (Some file) most bytes h short =
     let small : length file ≤ most = omega arith in
     ap Some (sym (h ∙ take_all most file small))
 
--- A refusal of what was loaded is one of the file.
-pub refused_whole : (l : Limit) (Form : ObjectParts → Type 0) (content : Option (List ℕ)) (most : ℕ) (bytes : List ℕ) (spot : Spot) → IsLoaded content most bytes → l.file < most
-    → IsInputRefusal l Form bytes spot → (file : List ℕ) × (content ≡ Some file) × IsInputRefusal l Form file spot
-refused_whole l Form None most bytes spot h large r = absurd h
-refused_whole l Form (Some file) most bytes spot h large (inl long) =
-    let n = ap length h ∙ length-take most file in
-    let above = long.1 in
-    (file, refl, inl (long.0, omega arith))
-refused_whole l Form (Some file) most bytes spot h large (inr short) =
-    let low = short.0 in
-    (bytes, loaded_whole (Some file) most bytes h (omega arith), inr short)
-
--- What was read and saved is hardened, so it is done once it is said.
-done_of : (p : Pair) (halves : List ℕ) (dropped : ℕ) (old new : Files) (screen after : Screen) → IsRead p old halves dropped → IsSaved p.output (output_of halves) old new
-    → IsPut (report_of p halves dropped) screen after → IsDone p old new screen after halves dropped
-done_of p halves dropped old new screen after read saved said = record {
-  read = read;
-  saved = saved;
-  said = said;
-  hardened = λ told picked pick.
-      let found = read.file told in
-      promised p halves read.code old.content new.content found.0 (output_of halves) found.2.read.stands refl found.1 (saved.whole told) picked pick;
-}
-
--- how `harden` ends that has read its input
-pub ends_of : (p : Pair) (halves : List ℕ) (dropped : ℕ) (old new : Files) (screen after : Screen) (ending : Ending) → IsRead p old halves dropped
-    → SaveEndsAs p.output (output_of halves) (report_of p halves dropped) old new screen after ending → EndsAs p old new screen after ending
-ends_of p halves dropped old new screen after Done read (saved, said) = (halves, dropped, done_of p halves dropped old new screen after read saved said)
-ends_of p halves dropped old new screen after WriteFault read unsaved = (halves, dropped, record { read = read; unsaved = unsaved })
-ends_of p halves dropped old new screen after PrintFault read (saved, said) = (halves, dropped, record { read = read; saved = saved; cause = said })
-ends_of p halves dropped old new screen after NoMemory read (inl untouched, said) = (inl untouched, said)
-ends_of p halves dropped old new screen after NoMemory read (inr saved, said) = (inr (halves, dropped, read, saved), said)
-ends_of p halves dropped old new screen after (Refused spot) read h = absurd h
-ends_of p halves dropped old new screen after Usage read h = absurd h
-ends_of p halves dropped old new screen after ReadFault read h = absurd h
-ends_of p halves dropped old new screen after (Stopped outcome) read h = absurd h
-
--- how a command ends that has saved one output and then printed its report
-pub save_ends : (name bytes report : List ℕ) (old new : Files) (screen after : Screen) (ending : Ending) → IsSaved name bytes old new → ReportEndsAs report screen after ending
-    → SaveEndsAs name bytes report old new screen after ending
-save_ends name bytes report old new screen after Done saved said = (saved, said)
-save_ends name bytes report old new screen after PrintFault saved said = (saved, said)
-save_ends name bytes report old new screen after NoMemory saved said = (inr saved, said)
-save_ends name bytes report old new screen after (Refused spot) saved said = absurd said
-save_ends name bytes report old new screen after Usage saved said = absurd said
-save_ends name bytes report old new screen after ReadFault saved said = absurd said
-save_ends name bytes report old new screen after WriteFault saved said = absurd said
-save_ends name bytes report old new screen after (Stopped outcome) saved said = absurd said
-
--- what was read of a file that was loaded
-pub read_of : (p : Pair) (files : Files) (most : ℕ) (output bytes file report halves : List ℕ) (dropped : ℕ) → (IsTrue files.told → IsLoaded (files.content p.input) most bytes)
-    → INPUT.file < most → IsDecided output bytes file report halves dropped → IsRead p files halves dropped
-read_of p files most output bytes file report halves dropped loaded large d =
-    let short = d.input_is.read.short in
-    record { code = d.code; file = λ told. (bytes, loaded_whole (files.content p.input) most bytes (loaded told) (omega arith), d.input_is) }
-
 -- From files that no one has touched so far, the same holds as from the files before.
 pub told_before : (old mid : Files) → Untouched old mid → IsTrue old.told → IsTrue mid.told
 told_before old mid same told = same.told ∙ told
-
-read_before : (p : Pair) (old mid : Files) (halves : List ℕ) (dropped : ℕ) → Untouched old mid → IsRead p mid halves dropped → IsRead p old halves dropped
-read_before p old mid halves dropped same read = record {
-  code = read.code;
-  file = λ told. let found = read.file (told_before old mid same told) in (found.0, sym (same.each p.input) ∙ found.1, found.2);
-}
 
 others_before : (name : List ℕ) (old mid new : Files) → Untouched old mid → SameBut name mid new → SameBut name old new
 others_before name old mid new same others = record { told = others.told ∙ same.told; each = λ other apart. others.each other apart ∙ same.each other }
 
 pub saved_before : (name bytes : List ℕ) (old mid new : Files) → Untouched old mid → IsSaved name bytes mid new → IsSaved name bytes old new
 saved_before name bytes old mid new same saved = record { others = others_before name old mid new same saved.others; whole = λ told. saved.whole (told_before old mid same told) }
-
-pub half_saved_before : (name bytes : List ℕ) (old mid new : Files) → Untouched old mid → IsHalfSaved name bytes mid new → IsHalfSaved name bytes old new
-half_saved_before name bytes old mid new same saved = record {
-  others = others_before name old mid new same saved.others;
-  part = λ told. subst (λ was. IsPartlySaved was bytes (new.content name)) (same.each name) (saved.part (told_before old mid same told));
-}
 
 pub untouched_before : (old mid new : Files) → Untouched old mid → Untouched mid new → Untouched old new
 untouched_before old mid new first second = record {
@@ -107,48 +37,123 @@ untouched_before old mid new first second = record {
   saves = second.saves ∙ first.saves;
 }
 
-pub refused_before : (cause : List ℕ → Type 0) (input : List ℕ) (old mid new : Files) (screen after : Screen) (spot : Spot) → Untouched old mid → IsRefusedFor cause input mid new screen after spot
-    → IsRefusedFor cause input old new screen after spot
-refused_before cause input old mid new screen after spot same refused = record {
-  given = λ told. let found = refused.given (told_before old mid same told) in (found.0, sym (same.each input) ∙ found.1, found.2);
-  untouched = untouched_before old mid new same refused.untouched;
-  said = refused.said;
+pub untouched_here : (files : Files) → Untouched files files
+untouched_here files = record { told = refl; each = λ name. refl; saves = refl }
+
+pub all_saved_before : (saves : List Save) (old mid new : Files) → Untouched old mid → AreSaved saves mid new → AreSaved saves old new
+all_saved_before [] old mid new same saved = untouched_before old mid new same saved
+all_saved_before (s ∷ saves) old mid new same (between, one, rest) = (between, saved_before s.name s.bytes old mid between same one, rest)
+
+-- what is known of a moment before the saves
+pub record IsBefore (old mid : Files) : Type 0 where
+  pub same : Untouched old mid
+  pub steady : IsTrue old.steady → IsTrue mid.steady
+
+pub finishes_before : (saves : List Save) (report : List ℕ) (old mid new : Files) (screen after : Screen) (ending : Ending) → IsBefore old mid → FinishesAs saves report mid new screen after ending
+    → FinishesAs saves report old new screen after ending
+finishes_before saves report old mid new screen after Done b (saved, said) = (all_saved_before saves old mid new b.same saved, said)
+finishes_before saves report old mid new screen after WriteFault b u = record {
+  earlier = u.earlier;
+  save = u.save;
+  later = u.later;
+  saves_are = u.saves_are;
+  between = u.between;
+  whole = all_saved_before u.earlier old mid u.between b.same u.whole;
+  half = u.half;
+  cause = subst (λ (count : ℕ). Rose count new.save_faults) b.same.saves u.cause;
+  unsteady = λ steady. u.unsteady (b.steady steady);
+  said = u.said;
+}
+finishes_before saves report old mid new screen after PrintFault b (saved, cut) = (all_saved_before saves old mid new b.same saved, cut)
+finishes_before saves report old mid new screen after NoMemory b p =
+    record { earlier = p.earlier; later = p.later; saves_are = p.saves_are; whole = all_saved_before p.earlier old mid new b.same p.whole; said = p.said }
+finishes_before saves report old mid new screen after (Refused spot) b h = absurd h
+finishes_before saves report old mid new screen after Usage b h = absurd h
+finishes_before saves report old mid new screen after ReadFault b h = absurd h
+finishes_before saves report old mid new screen after (Stopped outcome) b h = absurd h
+
+-- What is promised of a work follows from what was made and saved.
+abbrev pub KeepsItsPromise : Work → Type 0
+KeepsItsPromise w =
+    (loaded : List (List ℕ)) (saves : List Save) (report : List ℕ) (old new : Files) → w.Makes loaded saves report → IsTrue old.told → AreLoaded old.content w.inputs loaded → AreSaved saves old new
+    → w.Promises loaded saves report old.content new.content
+
+decided_of : (w : Work) (loaded : List (List ℕ)) (saves : List Save) (report : List ℕ) (old new : Files) (screen after : Screen) (ending : Ending) → KeepsItsPromise w → HasLoaded w old loaded
+    → w.Makes loaded saves report → FinishesAs saves report old new screen after ending → IsDecided w old new screen after ending
+decided_of w loaded saves report old new screen after ending keeps has made finished = record {
+  loaded = loaded;
+  saves = saves;
+  report = report;
+  inputs = has;
+  made = made;
+  finished = finished;
+  promised = λ done told.
+      let saved = subst (λ (e : Ending). FinishesAs saves report old new screen after e) done finished in
+      keeps loaded saves report old new made told (has told) saved.0;
 }
 
-pub unsaved_before : (name bytes : List ℕ) (old mid new : Files) (screen after : Screen) → Untouched old mid → IsUnsavedFor name bytes mid new screen after → IsUnsavedFor name bytes old new screen after
-unsaved_before name bytes old mid new screen after same unsaved = record {
-  cause = subst (λ count. Rose count new.save_faults) same.saves unsaved.cause;
-  saved = half_saved_before name bytes old mid new same unsaved.saved;
-  said = unsaved.said;
+comes_finished : (w : Work) (saves : List Save) (report : List ℕ) (old new : Files) (screen after : Screen) (ending : Ending) → FinishesAs saves report old new screen after ending
+    → IsDecided w old new screen after ending → ComesTo w old new screen after ending
+comes_finished w saves report old new screen after Done f d = d
+comes_finished w saves report old new screen after WriteFault f d = d
+comes_finished w saves report old new screen after PrintFault f d = d
+comes_finished w saves report old new screen after NoMemory f d = inr d
+comes_finished w saves report old new screen after (Refused spot) f d = absurd f
+comes_finished w saves report old new screen after Usage f d = absurd f
+comes_finished w saves report old new screen after ReadFault f d = absurd f
+comes_finished w saves report old new screen after (Stopped outcome) f d = absurd f
+
+-- how a command ends that has made something of its inputs
+pub made_comes : (w : Work) (loaded : List (List ℕ)) (saves : List Save) (report : List ℕ) (stopped : Option Outcome) (old mid new : Files) (screen after : Screen) (ending : Ending) → KeepsItsPromise w
+    → HasLoaded w old loaded → IsBefore old mid → IsMadeAs w loaded saves report stopped → MadeAsEndsAs saves report stopped mid new screen after ending → ComesTo w old new screen after ending
+made_comes w loaded saves report None old mid new screen after ending keeps has b made ends =
+    let f = finishes_before saves report old mid new screen after ending b ends in
+    comes_finished w saves report old new screen after ending f (decided_of w loaded saves report old new screen after ending keeps has made f)
+made_comes w loaded saves report (Some outcome) old mid new screen after ending keeps has b (other, stops) (is, untouched, said) =
+    subst (λ (e : Ending). ComesTo w old new screen after e) (sym is)
+    (record { loaded = loaded; line = report; inputs = has; other = other; cause = stops; untouched = untouched_before old mid new b.same untouched; said = said })
+
+-- how a command ends that could not load its one input
+pub unloaded_comes : (w : Work) (name : List ℕ) (limit : ℕ) (old new : Files) (screen after : Screen) (ending : Ending) → w.inputs ≡ record { name = name; limit = limit } ∷ [] → Untouched old new
+    → LoadFailsAs name old new screen after ending → ComesTo w old new screen after ending
+unloaded_comes w name limit old new screen after ReadFault one same h = record {
+  earlier = [];
+  input = record { name = name; limit = limit };
+  later = [];
+  inputs_are = one;
+  cause = h.cause;
+  absent = h.absent;
+  untouched = same;
+  said = h.said;
 }
+unloaded_comes w name limit old new screen after NoMemory one same h = inl (same, h)
+unloaded_comes w name limit old new screen after Done one same h = absurd h
+unloaded_comes w name limit old new screen after (Refused spot) one same h = absurd h
+unloaded_comes w name limit old new screen after Usage one same h = absurd h
+unloaded_comes w name limit old new screen after WriteFault one same h = absurd h
+unloaded_comes w name limit old new screen after PrintFault one same h = absurd h
+unloaded_comes w name limit old new screen after (Stopped outcome) one same h = absurd h
 
-pub ends_before : (p : Pair) (old mid new : Files) (screen after : Screen) (ending : Ending) → Untouched old mid → ending ≢ ReadFault → EndsAs p mid new screen after ending → EndsAs p old new screen after ending
-ends_before p old mid new screen after Done same no_fault (halves, dropped, done) =
-    (halves, dropped, done_of p halves dropped old new screen after (read_before p old mid halves dropped same done.read) (saved_before p.output (output_of halves) old mid new same done.saved) done.said)
-ends_before p old mid new screen after (Refused spot) same no_fault refused =
-    refused_before (λ file. IsHardenRefusal file spot) p.input old mid new screen after spot same refused
-ends_before p old mid new screen after Usage same no_fault e = absurd e
-ends_before p old mid new screen after ReadFault same no_fault e = absurd (no_fault refl)
-ends_before p old mid new screen after WriteFault same no_fault (halves, dropped, unsaved) =
-    (halves, dropped, record { read = read_before p old mid halves dropped same unsaved.read; unsaved = unsaved_before p.output (output_of halves) old mid new screen after same unsaved.unsaved })
-ends_before p old mid new screen after PrintFault same no_fault (halves, dropped, unsaid) =
-    (halves, dropped, record { read = read_before p old mid halves dropped same unsaid.read; saved = saved_before p.output (output_of halves) old mid new same unsaid.saved; cause = unsaid.cause })
-ends_before p old mid new screen after NoMemory same no_fault (inl untouched, said) = (inl (untouched_before old mid new same untouched), said)
-ends_before p old mid new screen after NoMemory same no_fault (inr (halves, dropped, read, saved), said) =
-    (inr (halves, dropped, read_before p old mid halves dropped same read, saved_before p.output (output_of halves) old mid new same saved), said)
-ends_before p old mid new screen after (Stopped outcome) same no_fault e = absurd e
+-- what is made where one file is saved, and where none is
+pub made_saving : (w : Work) (loaded : List (List ℕ)) (name bytes report : List ℕ) (made : Made) → IsSaving name bytes report made → w.Makes loaded (record { name = name; bytes = bytes } ∷ []) report → IsMadeBy w loaded made
+made_saving w loaded name bytes report made s h =
+    subst (λ (o : Option Outcome). IsMadeAs w loaded (saves_of made.outputs.items) made.report.items o) (sym s.ran_on)
+    (subst (λ (r : List ℕ). w.Makes loaded (saves_of made.outputs.items) r) (sym s.report_is)
+    (subst (λ (saves : List Save). w.Makes loaded saves report) (sym s.outputs) h))
 
--- how `harden` ends that could not load its input
-pub ends_unloaded : (p : Pair) (old new : Files) (screen after : Screen) (ending : Ending) → LoadEndsAs p.input old new screen after ending → EndsAs p old new screen after ending
-ends_unloaded p old new screen after ReadFault h = h
-ends_unloaded p old new screen after NoMemory (untouched, said) = (inl untouched, said)
-ends_unloaded p old new screen after Done h = absurd h
-ends_unloaded p old new screen after (Refused spot) h = absurd h
-ends_unloaded p old new screen after Usage h = absurd h
-ends_unloaded p old new screen after WriteFault h = absurd h
-ends_unloaded p old new screen after PrintFault h = absurd h
-ends_unloaded p old new screen after (Stopped outcome) h = absurd h
+pub made_saying : (w : Work) (loaded : List (List ℕ)) (report : List ℕ) (stopped : Option Outcome) (made : Made) → IsSaying report stopped made → IsMadeAs w loaded [] report stopped → IsMadeBy w loaded made
+made_saying w loaded report stopped made s h =
+    subst (λ (o : Option Outcome). IsMadeAs w loaded (saves_of made.outputs.items) made.report.items o) (sym s.stopped_is)
+    (subst (λ (r : List ℕ). IsMadeAs w loaded (saves_of made.outputs.items) r stopped) (sym s.report_is)
+    (subst (λ (saves : List Save). IsMadeAs w loaded saves report stopped) (sym s.outputs) h))
 
--- the report names the output only
-pub report_as : (p : Pair) (halves : List ℕ) (dropped : ℕ) (name : List ℕ) → p.output ≡ name → report_of (record { input = []; output = name }) halves dropped ≡ report_of p halves dropped
-report_as p halves dropped name e = ap (λ n. report_of (record { input = []; output = n }) halves dropped) (sym e)
+-- what is saved and said, by other names
+pub saving_as : {E : Type 0} (r : Result Made E) (name bytes report : List ℕ) (P : List ℕ → Type 0) (f g : List ℕ → List ℕ) → ((h : List ℕ) → P h → bytes ≡ f h) → ((h : List ℕ) → P h → report ≡ g h)
+    → IfOk r (IsSaving name bytes report) → IfOk r (λ made. (h : List ℕ) → P h → IsSaving name (f h) (g h) made)
+saving_as (Err e) name bytes report P f g same_bytes same_report h = tt
+saving_as (Ok made) name bytes report P f g same_bytes same_report s = λ h p.
+    record {
+      outputs = s.outputs ∙ ap (λ (b : List ℕ). record { name = name; bytes = b } ∷ []) (same_bytes h p);
+      report_is = s.report_is ∙ same_report h p;
+      ran_on = s.ran_on;
+    }

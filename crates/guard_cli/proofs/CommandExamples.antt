@@ -1,7 +1,5 @@
 -- The definitions of `link` and `run`, on small objects.
-use Rattle.std.proofs.Common.{◌≡◌, [], ◌∷◌, true, inl, inr, refl, codes, lit≤}
-use Rattle.std.specs.Prelude.{All}
-use Rattle.std.proofs.lemmas.List.Elements.{All-cons, All-nil}
+use Rattle.std.proofs.Common.{◌≡◌, [], ◌∷◌, true, refl, codes}
 use Rattle.std.specs.Fmt.{digits}
 use Rattle.thumb_table.specs.declared.faults.FaultKind.TheVariants.{BadFetch}
 use Rattle.elf_model.specs.Objects.{is_code}
@@ -10,7 +8,7 @@ use Rattle.guard_cli.specs.Texts.{line, link_line, returned_line, stopped_line, 
 use Rattle.guard_cli.specs.Linkable.{IsLinkable}
 use Rattle.guard_cli.specs.FirstForm.{first_object}
 use Rattle.guard_cli.specs.Output.{hardened_object}
-use Rattle.guard_cli.specs.LinkRuns.{bytes_of}
+use Rattle.guard_cli.specs.LinkWork.{bytes_of}
 
 word_is : word_text 0x8004 ≡ codes "0x00008004"
 unfolding digits

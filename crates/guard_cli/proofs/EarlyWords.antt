@@ -1,74 +1,81 @@
--- Commands that are not handled yet.
-use Rattle.std.proofs.Common.{◌≡◌, ◌≤◌, ◌⊎◌, inl, inr, ℕ, List, [], ◌∷◌, length, sym, ap, ◌∙◌, subst, arith}
-use Rattle.guard_cli.specs.Words.{Pair, IsHarden, LinkWords, IsLink, Skips, listed, drawn, RunWords, IsRun, IsList, IsCommand}
+-- Commands that are not handled yet, and those for which memory is wanting as they are read.
+use Rattle.std.proofs.Common.{◌≡◌, ◌≤◌, ◌⊎◌, inl, inr, ℕ, List, [], ◌∷◌, length, refl, sym, subst, arith}
+use Rattle.elf_model.specs.declared.refusals.Refusal.TheVariants.{NotYet}
+use Rattle.guard_cli.specs.declared.endings.Ending.TheVariants.{Refused, NoMemory}
+use Rattle.guard_cli.specs.FirstForm.{at_start}
+use Rattle.guard_cli.specs.Texts.{refused_line, no_memory_line}
+use Rattle.guard_cli.specs.Words.{LinkWords, RunWords, Skips, listed, drawn, IsRun, IsList}
 use Rattle.guard_cli.specs.Commands.{IsFirst, AreDrawn, IsEarly}
-use Rattle.guard_cli.proofs.Pairs.{same_harden}
-use Rattle.guard_cli.proofs.OneMeaning.{same_link, same_run, harden_is_no_link, harden_is_no_run, link_is_no_run, list_is_no_harden, list_is_no_link, list_is_no_run, harden_is_command, link_is_command, run_is_command}
+use Rattle.guard_cli.specs.Meanings.{Meaning, harden, link, run, list, Means, link_by, run_by, work_of}
+use Rattle.guard_cli.specs.Moments.{Files, Screen, Untouched, IsToldOf}
+use Rattle.guard_cli.specs.Works.{Work, input_named}
+use Rattle.guard_cli.specs.Endings.{EndsAs, IsRefusedAtOnce}
+use Rattle.guard_cli.proofs.Meanings.{meant}
 
-pub early_is_command : (words : List (List ℕ)) (input : List ℕ) → IsEarly words input → IsCommand words
-early_is_command words input (inl h) = harden_is_command words (h.0 ∷ h.1 ∷ h.2) h.3
-early_is_command words input (inr (inl h)) = link_is_command words h.0 h.1
-early_is_command words input (inr (inr h)) = run_is_command words h.0 h.1
+module _ (old new : Files) (screen after : Screen) where
+  -- a refusal of the first of these inputs, before anything is loaded
+  pub record IsTurnedAway (input : List ℕ) : Type 0 where
+    pub untouched : Untouched old new
+    pub loads : new.load_faults ≡ old.load_faults
+    pub said : IsToldOf (refused_line input (at_start NotYet)) screen after
 
--- a command with one pair of files is handled
-pub early_is_no_pair : (words : List (List ℕ)) (input : List ℕ) (p : Pair) → IsEarly words input → IsHarden words (p ∷ []) → ⊥
-early_is_no_pair words input p (inl h) k = let e = ap length (same_harden words (h.0 ∷ h.1 ∷ h.2) (p ∷ []) h.3 k) in absurd (omega arith)
-early_is_no_pair words input p (inr (inl h)) k = harden_is_no_link words (p ∷ []) h.0 k h.1
-early_is_no_pair words input p (inr (inr h)) k = harden_is_no_run words (p ∷ []) h.0 k h.1
+  refused_of : (w : Work) (input : List ℕ) → IsTurnedAway input → input_named w.inputs 0 ≡ input → IsRefusedAtOnce w (at_start NotYet) old new screen after (Refused (at_start NotYet))
+  refused_of w input t e = record {
+    ending_is = refl;
+    untouched = t.untouched;
+    loads = t.loads;
+    said = subst (λ (n : List ℕ). IsToldOf (refused_line n (at_start NotYet)) screen after) (sym e) t.said;
+  }
 
--- `link` with one input is handled
-pub early_is_no_link : (words : List (List ℕ)) (input : List ℕ) (l : LinkWords) (only : List ℕ) → IsEarly words input → IsLink words l → l.inputs ≡ only ∷ [] → ⊥
-early_is_no_link words input l only (inl h) k one = harden_is_no_link words (h.0 ∷ h.1 ∷ h.2) l h.3 k
-early_is_no_link words input l only (inr (inl h)) k one =
-    let same = ap (λ (m : LinkWords). length m.inputs) (same_link words h.0 l h.1 k) in
-    let count = ap length one in
-    let several = h.3 in absurd (omega arith)
-early_is_no_link words input l only (inr (inr h)) k one = link_is_no_run words l h.0 k h.1
+  link_turned : (l : LinkWords) (input : List ℕ) (inputs : List (List ℕ)) → IsTurnedAway input → IsFirst inputs input → 2 ≤ length inputs → EndsAs (link_by l inputs) old new screen after (Refused (at_start NotYet))
+  link_turned l input [] t first several = absurd first
+  link_turned l input (x ∷ []) t first several = absurd (omega arith)
+  link_turned l input (x ∷ y ∷ inputs) t first several = refused_of (link_by l (x ∷ y ∷ inputs)) input t first
 
--- `list` is handled
-pub early_is_no_list : (words : List (List ℕ)) (input name : List ℕ) → IsEarly words input → IsList words name → ⊥
-early_is_no_list words input name (inl h) k = list_is_no_harden words name (h.0 ∷ h.1 ∷ h.2) k h.3
-early_is_no_list words input name (inr (inl h)) k = list_is_no_link words name h.0 k h.1
-early_is_no_list words input name (inr (inr h)) k = list_is_no_run words name h.0 k h.1
+  run_turned : (r : RunWords) (input : List ℕ) (inputs : List (List ℕ)) (skips : Skips) → IsTurnedAway input → IsFirst inputs input → (2 ≤ length inputs) ⊎ AreDrawn skips
+      → EndsAs (run_by r inputs skips) old new screen after (Refused (at_start NotYet))
+  run_turned r input [] skips t first why = absurd first
+  run_turned r input (x ∷ []) (listed steps) t first (inl several) = absurd (omega arith)
+  run_turned r input (x ∷ []) (listed steps) t first (inr are) = absurd are
+  run_turned r input (x ∷ []) (drawn n) t first why = refused_of (run_by r (x ∷ []) (drawn n)) input t first
+  run_turned r input (x ∷ y ∷ inputs) (listed steps) t first why = refused_of (run_by r (x ∷ y ∷ inputs) (listed steps)) input t first
+  run_turned r input (x ∷ y ∷ inputs) (drawn n) t first why = refused_of (run_by r (x ∷ y ∷ inputs) (drawn n)) input t first
 
-listed_is_not_drawn : (s : Skips) (steps : List ℕ) → s ≡ listed steps → AreDrawn s → ⊥
-listed_is_not_drawn (listed t) steps e d = d
-listed_is_not_drawn (drawn n) steps e d = absurd (cc)
+  -- a command that is not handled yet ends as its work says
+  pub early_ends : (words : List (List ℕ)) (input : List ℕ) (m : Meaning) → IsEarly words input → IsTurnedAway input → Means words m → EndsAs (work_of m) old new screen after (Refused (at_start NotYet))
+  early_ends words input m (inl h) t k =
+      meant words (harden (h.0 ∷ h.1 ∷ h.2)) m (λ (m : Meaning). EndsAs (work_of m) old new screen after (Refused (at_start NotYet))) h.3 k
+      (refused_of (work_of (harden (h.0 ∷ h.1 ∷ h.2))) input t h.4)
+  early_ends words input m (inr (inl h)) t k =
+      meant words (link h.0) m (λ (m : Meaning). EndsAs (work_of m) old new screen after (Refused (at_start NotYet))) h.1 k
+      (link_turned h.0 input h.0.inputs t h.2 h.3)
+  early_ends words input m (inr (inr h)) t k =
+      meant words (run h.0) m (λ (m : Meaning). EndsAs (work_of m) old new screen after (Refused (at_start NotYet))) h.1 k
+      (run_turned h.0 input h.0.inputs h.0.skips t h.2 h.3)
 
--- `run` with one input and a list of steps is handled
-pub early_is_no_run : (words : List (List ℕ)) (input : List ℕ) (r : RunWords) (only steps : List ℕ) → IsEarly words input → IsRun words r → r.inputs ≡ only ∷ [] → r.skips ≡ listed steps → ⊥
-early_is_no_run words input r only steps (inl h) k one are = harden_is_no_run words (h.0 ∷ h.1 ∷ h.2) r h.3 k
-early_is_no_run words input r only steps (inr (inl h)) k one are = link_is_no_run words h.0 r h.1 k
-early_is_no_run words input r only steps (inr (inr h)) k one are =
-    go (same_run words h.0 r h.1 k) h.3
-  where
-    go : h.0 ≡ r → (2 ≤ length h.0.inputs) ⊎ AreDrawn h.0.skips → ⊥
-    go same (inl several) = let count = ap length one in let e = ap (λ (s : RunWords). length s.inputs) same in absurd (omega arith)
-    go same (inr are_drawn) = listed_is_not_drawn r.skips steps are (subst (λ (s : RunWords). AreDrawn s.skips) same are_drawn)
+  run_wants : (r : RunWords) (input steps : List ℕ) (inputs : List (List ℕ)) (skips : Skips) → inputs ≡ input ∷ [] → skips ≡ listed steps → Untouched old new × IsToldOf no_memory_line screen after
+      → EndsAs (run_by r inputs skips) old new screen after NoMemory
+  run_wants r input steps [] skips e f h = absurd (cc)
+  run_wants r input steps (x ∷ []) (listed s) e f h = inl h
+  run_wants r input steps (x ∷ []) (drawn n) e f h = absurd (cc)
+  run_wants r input steps (x ∷ y ∷ inputs) skips e f h = absurd (cc)
 
-same_first : (files : List (List ℕ)) (a b : List ℕ) → IsFirst files a → IsFirst files b → a ≡ b
-same_first [] a b h k = absurd h
-same_first (f ∷ files) a b h k = sym h ∙ k
+  -- a command whose words could not be read for want of memory ends as its work says
+  pub wanting_ends : (words : List (List ℕ)) (m : Meaning)
+      → ((r : RunWords) × (name steps : List ℕ) × IsRun words r × (r.inputs ≡ name ∷ []) × (r.skips ≡ listed steps)) ⊎ ((name : List ℕ) × IsList words name)
+      → Untouched old new × IsToldOf no_memory_line screen after → Means words m → EndsAs (work_of m) old new screen after NoMemory
+  wanting_ends words m (inl n) h k =
+      meant words (run n.0) m (λ (m : Meaning). EndsAs (work_of m) old new screen after NoMemory) n.3 k (run_wants n.0 n.1 n.2 n.0.inputs n.0.skips n.4 n.5 h)
+  wanting_ends words m (inr n) h k =
+      meant words (list n.0) m (λ (m : Meaning). EndsAs (work_of m) old new screen after NoMemory) n.1 k (inl h)
 
--- THE LAW OF COMMANDS NOT HANDLED YET: one input is named.
-pub same_early : (words : List (List ℕ)) (a b : List ℕ) → IsEarly words a → IsEarly words b → a ≡ b
-same_early words a b (inl h) (inl k) =
-    let same = same_harden words (h.0 ∷ h.1 ∷ h.2) (k.0 ∷ k.1 ∷ k.2) h.3 k.3 in
-    let first : h.0 ≡ k.0 = cc in
-    sym h.4 ∙ ap (λ (p : Pair). p.input) first ∙ k.4
-same_early words a b (inl h) (inr (inl k)) = absurd (harden_is_no_link words (h.0 ∷ h.1 ∷ h.2) k.0 h.3 k.1)
-same_early words a b (inl h) (inr (inr k)) = absurd (harden_is_no_run words (h.0 ∷ h.1 ∷ h.2) k.0 h.3 k.1)
-same_early words a b (inr (inl h)) (inl k) = absurd (harden_is_no_link words (k.0 ∷ k.1 ∷ k.2) h.0 k.3 h.1)
-same_early words a b (inr (inl h)) (inr (inl k)) =
-    same_first k.0.inputs a b (subst (λ (l : LinkWords). IsFirst l.inputs a) (same_link words h.0 k.0 h.1 k.1) h.2) k.2
-same_early words a b (inr (inl h)) (inr (inr k)) = absurd (link_is_no_run words h.0 k.0 h.1 k.1)
-same_early words a b (inr (inr h)) (inl k) = absurd (harden_is_no_run words (k.0 ∷ k.1 ∷ k.2) h.0 k.3 h.1)
-same_early words a b (inr (inr h)) (inr (inl k)) = absurd (link_is_no_run words k.0 h.0 k.1 h.1)
-same_early words a b (inr (inr h)) (inr (inr k)) =
-    same_first k.0.inputs a b (subst (λ (r : RunWords). IsFirst r.inputs a) (same_run words h.0 k.0 h.1 k.1) h.2) k.2
+-- words of an early command, or of one that wants memory, mean something
+pub early_means : (words : List (List ℕ)) (input : List ℕ) → IsEarly words input → (m : Meaning) × Means words m
+early_means words input (inl h) = (harden (h.0 ∷ h.1 ∷ h.2), h.3)
+early_means words input (inr (inl h)) = (link h.0, h.1)
+early_means words input (inr (inr h)) = (run h.0, h.1)
 
--- A command that wants memory for its plan or its file word is handled.
-pub not_early : (words : List (List ℕ)) (input : List ℕ) → IsEarly words input
-    → ((r : RunWords) × (name steps : List ℕ) × IsRun words r × (r.inputs ≡ name ∷ []) × (r.skips ≡ listed steps)) ⊎ ((name : List ℕ) × IsList words name) → ⊥
-not_early words input early (inl n) = early_is_no_run words input n.0 n.1 n.2 early n.3 n.4 n.5
-not_early words input early (inr n) = early_is_no_list words input n.0 early n.1
+pub wanting_means : (words : List (List ℕ)) → ((r : RunWords) × (name steps : List ℕ) × IsRun words r × (r.inputs ≡ name ∷ []) × (r.skips ≡ listed steps)) ⊎ ((name : List ℕ) × IsList words name)
+    → (m : Meaning) × Means words m
+wanting_means words (inl n) = (run n.0, n.3)
+wanting_means words (inr n) = (list n.0, n.1)

@@ -1,5 +1,5 @@
 -- The definitions, run on the smallest code: `movs r0, #5` and `bx lr`, plain and hardened.
-use Rattle.std.specs.Prelude.{◌≡◌, ℕ, ◌+◌, Bool, true, false, List, [], ◌∷◌, length, Option, Some, None, Result, Ok, Err, refl, codes}
+use Rattle.std.specs.Prelude.{◌≡◌, ℕ, ◌+◌, Bool, List, [], ◌∷◌, length, Option, Some, None, Result, Ok, Err, refl, codes}
 use Rattle.guard_cli.specs.FirstForm.{first_object}
 use Rattle.guard_cli.specs.Output.{hardened_object}
 use Rattle.thumb_instr.specs.HalfRows.{half_rows}

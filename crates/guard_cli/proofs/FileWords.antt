@@ -1,5 +1,5 @@
 -- What clap makes of the words of `list`.
-use Rattle.std.proofs.Common.{◌≡◌, ◌≢◌, ℕ, false, true, List, [], ◌∷◌, Some, refl, codes, sym, ap, ◌∙◌, subst, arith, map, drop, take, length, ◌-◌}
+use Rattle.std.proofs.Common.{◌≡◌, ◌≢◌, ℕ, false, true, List, [], ◌∷◌, Some, refl, codes, ap, ◌∙◌, arith, map, drop, take, length, ◌-◌}
 use Rattle.std.specs.Prelude.{◌==◌, All}
 use Rattle.std.proofs.lemmas.Bool.{false_from_ne_true, eqb-true}
 use Rattle.std.proofs.lemmas.List.Elements.{All-head}

@@ -10,7 +10,8 @@ use Rattle.guard_cli.specs.declared.options.Options.{Options}
 use Rattle.guard_cli.specs.declared.settings.Said.{Said}
 use Rattle.guard_cli.specs.declared.settings.Schedule.{Schedule}
 use Rattle.guard_cli.specs.declared.settings.Schedule.TheVariants.{Listed, Drawn}
-use Rattle.guard_cli.specs.Words.{Pair, names_of, IsHarden, IsNumberOf, IsPlacedBy, LinkWords, IsLink, Skips, listed, drawn, AreSkips, RunWords, IsRunBy, IsRun, IsList, IsCommand, Setting, same_option, value_of, AreArranged}
+use Rattle.guard_cli.specs.Words.{Pair, names_of, IsHarden, IsNumberOf, IsPlacedBy, LinkWords, IsLink, Skips, listed, drawn, AreSkips, RunWords, IsRunBy, IsRun, IsList, Setting, same_option, value_of, AreArranged}
+use Rattle.guard_cli.specs.Meanings.{harden, link, run, list, IsCommand}
 use Rattle.guard_cli.specs.Arranged.{value_in, AreOptions, IsPlacing, IsSaid, IsSchedule}
 use Rattle.skip_machine.proofs.PlanSteps.{same_plan}
 use Rattle.guard_cli.proofs.NumberTexts.{same_number}
@@ -132,40 +133,28 @@ link_is_no_run words l r h k = link_no_run k.rest h.rest (sym k.words_are ∙ h.
 
 -- Words that begin with a command's name are that command or none.
 pub only_harden : (names : List (List ℕ)) → ((pairs : List Pair) → IsHarden (codes "harden" ∷ names) pairs → ⊥) → IsCommand (codes "harden" ∷ names) → ⊥
-only_harden names none (inl h) = none h.0 h.1
-only_harden names none (inr (inl h)) = harden_no_link h.1.rest names (sym h.1.words_are)
-only_harden names none (inr (inr (inl h))) = harden_no_run h.1.rest names (sym h.1.words_are)
-only_harden names none (inr (inr (inr h))) = harden_no_list h.0 names h.1.words_are
+only_harden names none (harden pairs, h) = none pairs h
+only_harden names none (link l, h) = harden_no_link h.rest names (sym h.words_are)
+only_harden names none (run r, h) = harden_no_run h.rest names (sym h.words_are)
+only_harden names none (list input, h) = harden_no_list input names h.words_are
 
 pub only_link : (rest : List (List ℕ)) → ((l : LinkWords) → IsLink (codes "link" ∷ rest) l → ⊥) → IsCommand (codes "link" ∷ rest) → ⊥
-only_link rest none (inl h) = harden_no_link rest (flat_map names_of h.0) h.1.words_are
-only_link rest none (inr (inl h)) = none h.0 h.1
-only_link rest none (inr (inr (inl h))) = link_no_run h.1.rest rest (sym h.1.words_are)
-only_link rest none (inr (inr (inr h))) = link_no_list h.0 rest h.1.words_are
+only_link rest none (harden pairs, h) = harden_no_link rest (flat_map names_of pairs) h.words_are
+only_link rest none (link l, h) = none l h
+only_link rest none (run r, h) = link_no_run h.rest rest (sym h.words_are)
+only_link rest none (list input, h) = link_no_list input rest h.words_are
 
 pub only_run : (rest : List (List ℕ)) → ((r : RunWords) → IsRun (codes "run" ∷ rest) r → ⊥) → IsCommand (codes "run" ∷ rest) → ⊥
-only_run rest none (inl h) = harden_no_run rest (flat_map names_of h.0) h.1.words_are
-only_run rest none (inr (inl h)) = link_no_run rest h.1.rest h.1.words_are
-only_run rest none (inr (inr (inl h))) = none h.0 h.1
-only_run rest none (inr (inr (inr h))) = run_no_list h.0 rest h.1.words_are
+only_run rest none (harden pairs, h) = harden_no_run rest (flat_map names_of pairs) h.words_are
+only_run rest none (link l, h) = link_no_run rest h.rest h.words_are
+only_run rest none (run r, h) = none r h
+only_run rest none (list input, h) = run_no_list input rest h.words_are
 
 pub only_list : (rest : List (List ℕ)) → ((input : List ℕ) → IsList (codes "list" ∷ rest) input → ⊥) → IsCommand (codes "list" ∷ rest) → ⊥
-only_list rest none (inl h) = list_no_harden rest (flat_map names_of h.0) h.1.words_are
-only_list rest none (inr (inl h)) = list_no_link rest h.1.rest h.1.words_are
-only_list rest none (inr (inr (inl h))) = list_no_run rest h.1.rest h.1.words_are
-only_list rest none (inr (inr (inr h))) = none h.0 h.1
-
-pub harden_is_command : (words : List (List ℕ)) (pairs : List Pair) → IsHarden words pairs → IsCommand words
-harden_is_command words pairs h = inl (pairs, h)
-
-pub link_is_command : (words : List (List ℕ)) (l : LinkWords) → IsLink words l → IsCommand words
-link_is_command words l h = inr (inl (l, h))
-
-pub run_is_command : (words : List (List ℕ)) (r : RunWords) → IsRun words r → IsCommand words
-run_is_command words r h = inr (inr (inl (r, h)))
-
-pub list_is_command : (words : List (List ℕ)) (input : List ℕ) → IsList words input → IsCommand words
-list_is_command words input h = inr (inr (inr (input, h)))
+only_list rest none (harden pairs, h) = list_no_harden rest (flat_map names_of pairs) h.words_are
+only_list rest none (link l, h) = list_no_link rest h.rest h.words_are
+only_list rest none (run r, h) = list_no_run rest h.rest h.words_are
+only_list rest none (list input, h) = none input h
 
 -- THE LAW OF `list`: its words name one file.
 pub same_list : (words : List (List ℕ)) (a b : List ℕ) → IsList words a → IsList words b → a ≡ b
@@ -192,14 +181,14 @@ same_skips : (skip seed : Option (List ℕ)) (a b : Skips) → AreSkips skip see
 same_skips None None (listed s) (listed t) h k = ap (λ l. listed l) (h ∙ sym k)
 same_skips None None (listed s) (drawn n) h k = absurd k
 same_skips None None (drawn n) b h k = absurd h
-same_skips (Some list) None (listed s) (listed t) h k = ap (λ l. listed l) (same_plan 2 list s t h k)
-same_skips (Some list) None (listed s) (drawn n) h k = absurd k
-same_skips (Some list) None (drawn n) b h k = absurd h
+same_skips (Some text) None (listed s) (listed t) h k = ap (λ l. listed l) (same_plan 2 text s t h k)
+same_skips (Some text) None (listed s) (drawn n) h k = absurd k
+same_skips (Some text) None (drawn n) b h k = absurd h
 same_skips None (Some seed) (drawn m) (drawn n) h k = ap (λ l. drawn l) (same_number seed m n h k)
 same_skips None (Some seed) (drawn m) (listed t) h k = absurd k
 same_skips None (Some seed) (listed s) b h k = absurd h
-same_skips (Some list) (Some seed) (listed s) b h k = absurd h
-same_skips (Some list) (Some seed) (drawn n) b h k = absurd h
+same_skips (Some text) (Some seed) (listed s) b h k = absurd h
+same_skips (Some text) (Some seed) (drawn n) b h k = absurd h
 
 same_said : (value : OptionName → Option (List ℕ)) (a b : RunWords) → IsRunBy value a → IsRunBy value b → a.inputs ≡ b.inputs → a ≡ b
 same_said value a b h k inputs =

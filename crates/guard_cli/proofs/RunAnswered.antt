@@ -1,5 +1,5 @@
--- Where nothing fails outside, a call that returns within its steps is run to its end, unless memory runs out.
-use Rattle.std.proofs.Common.{◌≡◌, ◌≢◌, ◌<◌, inl, inr, ℕ, zero, suc, ◌+◌, ◌-◌, Bool, List, [], ◌∷◌, Some, None, Result, Ok, Err, IsTrue, refl, sym, ap, ◌∙◌, subst, arith}
+-- A call that returns within its steps is not refused, and its run does not stop otherwise.
+use Rattle.std.proofs.Common.{◌≡◌, ◌≢◌, ◌<◌, inl, inr, ℕ, zero, suc, ◌+◌, ◌-◌, Bool, List, [], ◌∷◌, Some, None, Result, Ok, Err, refl, sym, ap, ◌∙◌, subst, arith}
 use Rattle.std.proofs.lemmas.Bool.{cases_order}
 use Rattle.elf_model.specs.declared.refusals.Spot.{Spot}
 use Rattle.elf_model.specs.Objects.{ObjectParts}
@@ -14,15 +14,16 @@ use Rattle.skip_machine.specs.declared.machines.Outcome.{Outcome}
 use Rattle.skip_machine.specs.declared.machines.Outcome.TheVariants.{Returned, Fault, Unfinished}
 use Rattle.skip_machine.specs.Runs.{RunEnds}
 use Rattle.skip_machine.proofs.Walks.{run_more}
-use Rattle.guard_cli.specs.declared.endings.Ending.{Ending}
-use Rattle.guard_cli.specs.declared.endings.Ending.TheVariants.{Done, Refused, Usage, ReadFault, WriteFault, PrintFault, NoMemory, Stopped}
-use Rattle.guard_cli.specs.Runs.{Files, Screen, IsCalm, IsDoneOrNoMemory}
-use Rattle.guard_cli.specs.LinkRuns.{IsOf}
-use Rattle.guard_cli.specs.MachineRuns.{Call, IsRunRefusal, HasRun, RunEndsAs, CanReturn}
-use Rattle.guard_cli.proofs.Answered.{some_same}
-use Rattle.guard_cli.proofs.LinkCarried.{one_of, image_is_accepted}
+use Rattle.guard_cli.specs.declared.run.Finished.{Finished}
+use Rattle.guard_cli.specs.LinkWork.{IsOf}
+use Rattle.guard_cli.specs.MachineRuns.{Call, IsRunRefusal, HasRun, CanReturn, run_line, run_work}
+use Rattle.guard_cli.specs.Steps.{IsFinished, IsMadeAs, stopped_by}
+use Rattle.guard_cli.proofs.Accepted.{one_of, image_is_accepted}
 use Rattle.thumb_table.proofs.PlainImages.{one_plain}
 use Rattle.guard_cli.proofs.SameImages.{same_image}
+
+some_same : (x y : ℕ) → Some x ≡ Some y → x ≡ y
+some_same x y e = cc
 
 -- A fault ends every longer run.
 broken_on : (code : CodeBytes) (skips : ℕ → Bool) (n k i : ℕ) (s : State) (kind : FaultKind) → run code skips n i s ≡ Err kind → run code skips (n + k) i s ≡ Err kind
@@ -72,7 +73,7 @@ returns_only code skips most s t r Unfinished m u other (all, lasts) =
     absurd (omega arith)
 
 -- An input whose call can be made is not refused.
-call_is_accepted : (c : Call) (file : List ℕ) (spot : Spot) → CanReturn c file → IsRunRefusal c file spot → ⊥
+pub call_is_accepted : (c : Call) (file : List ℕ) (spot : Spot) → CanReturn c file → IsRunRefusal c file spot → ⊥
 call_is_accepted c file spot (o, image, is, linked, entry, entry_is, t, returns) (inl link) = image_is_accepted c.at file spot (o, image, is, linked) link
 call_is_accepted c file spot (o, image, is, linked, entry, entry_is, t, returns) (inr (at, (other, its_image, its, its_linked, none))) =
     let same = one_of file other o its is in
@@ -84,15 +85,13 @@ call_is_accepted c file spot (o, image, is, linked, entry, entry_is, t, returns)
     no_some a e = cc
 
 -- Its run returns.
-run_returns : (c : Call) (old new : Files) (file : List ℕ) (outcome : Outcome) (line : List ℕ) → IsTrue old.told → old.content c.input ≡ Some file → CanReturn c file → HasRun c old new outcome line → outcome ≢ Returned → ⊥
-run_returns c old new file outcome line told there (o, image, is, linked, entry, entry_is, t, returns) has other =
+pub run_returns : (c : Call) (file : List ℕ) (outcome : Outcome) (line : List ℕ) → CanReturn c file → outcome ≢ Returned → HasRun c file outcome line → ⊥
+run_returns c file outcome line (o, image, is, linked, entry, entry_is, t, returns) other has =
     let r = has.run_is in
-    let found = r.call.linked.file told in
-    let same_file : found.0 ≡ file = some_same (sym found.1 ∙ there) in
-    let same : r.call.object ≡ o = one_of file r.call.object o (subst (λ f. IsOf f r.call.object) same_file found.2) is in
-    let here : IsImage (o ∷ []) c.at r.image = subst (λ (x : ObjectParts). IsImage (x ∷ []) c.at r.image) same r.call.linked.image_is in
+    let same : r.call.object ≡ o = one_of file r.call.object o r.call.input is in
+    let here : IsImage (o ∷ []) c.at r.image = subst (λ (x : ObjectParts). IsImage (x ∷ []) c.at r.image) same r.call.image_is in
     let one : r.image ≡ image = same_image (o ∷ []) c.at (one_plain o is.form.relocs) r.image image here linked in
-    let place : r.call.entry ≡ entry = some_same (sym r.call.entry_is ∙ ap (λ (i : Image). entry_of i.entries c.entry) one ∙ entry_is) in
+    let place : r.call.entry ≡ entry = some_same r.call.entry entry (sym r.call.entry_is ∙ ap (λ (i : Image). entry_of i.entries c.entry) one ∙ entry_is) in
     let begun : r.begun ≡ start image c.at.stack entry c.arguments =
     r.call.start_is ∙ ap (λ (i : Image). start i c.at.stack r.call.entry c.arguments) one ∙ ap (λ (a : ℕ). start image c.at.stack a c.arguments) place in
     let ends : RunEnds image.code (is_in c.schedule) c.steps 0 (start image c.at.stack entry c.arguments) outcome has.steps has.ended =
@@ -100,17 +99,38 @@ run_returns c old new file outcome line told there (o, image, is, linked, entry,
     (subst (λ (i : Image). RunEnds i.code (is_in c.schedule) c.steps 0 r.begun outcome has.steps has.ended) one r.ends) in
     returns_only image.code (is_in c.schedule) c.steps (start image c.at.stack entry c.arguments) t returns outcome has.steps has.ended other ends
 
-pub calm_has_run : (c : Call) (old new : Files) (screen after : Screen) (ending : Ending) (file : List ℕ) → RunEndsAs c old new screen after ending → IsTrue old.told
-    → old.content c.input ≡ Some file → CanReturn c file → IsCalm old new screen after → IsDoneOrNoMemory ending
-calm_has_run c old new screen after Done file ends told there can calm = inl refl
-calm_has_run c old new screen after NoMemory file ends told there can calm = inr refl
-calm_has_run c old new screen after Usage file ends told there can calm = absurd ends
-calm_has_run c old new screen after ReadFault file ends told there can calm = absurd (calm.loads ends.cause)
-calm_has_run c old new screen after WriteFault file ends told there can calm = absurd ends
-calm_has_run c old new screen after PrintFault file (line, has, cut) told there can calm = absurd (calm.puts cut.0)
-calm_has_run c old new screen after (Refused spot) file ends told there can calm =
-    let found = ends.given told in
-    let same : found.0 ≡ file = some_same (sym found.1 ∙ there) in
-    absurd (call_is_accepted c file spot can (subst (λ f. IsRunRefusal c f spot) same found.2))
-calm_has_run c old new screen after (Stopped outcome) file (other, line, has, said) told there can calm =
-    absurd (run_returns c old new file outcome line told there can has other)
+-- what was made of an input whose function was run
+pub record IsRunMade (c : Call) (file : List ℕ) (f : Finished) (line : List ℕ) : Type 0 where
+  pub object : ObjectParts
+  pub image : Image
+  pub input : IsOf file object
+  pub image_is : IsImage (object ∷ []) c.at image
+  pub entry : ℕ
+  pub entry_is : entry_of image.entries c.entry ≡ Some entry
+  pub run_is : IsFinished image c.schedule c.steps (start image c.at.stack entry c.arguments) f
+  pub line_is : line ≡ run_line f.outcome f.steps f.r0 f.ordinary
+
+has_run : (c : Call) (file : List ℕ) (f : Finished) (line : List ℕ) → IsRunMade c file f line → HasRun c file f.outcome line
+has_run c file f line made =
+    let r0 = made.run_is.r0_is in
+    record {
+      steps = f.steps;
+      ended = made.run_is.ended;
+      ordinary = f.ordinary;
+      run_is = record {
+        image = made.image;
+        begun = start made.image c.at.stack made.entry c.arguments;
+        call = record { object = made.object; input = made.input; image_is = made.image_is; entry = made.entry; entry_is = made.entry_is; start_is = refl };
+        ends = made.run_is.ends;
+        ordinary_is = made.run_is.ordinary_is;
+      };
+      line_is = made.line_is ∙ ap (λ n. run_line f.outcome f.steps n f.ordinary) r0;
+    }
+
+ended_so : (c : Call) (file : List ℕ) (outcome : Outcome) (line : List ℕ) → HasRun c file outcome line → IsMadeAs (run_work c) (file ∷ []) [] line (stopped_by outcome)
+ended_so c file Returned line has = (refl, has)
+ended_so c file (Fault kind pc) line has = (λ e. absurd (cc), has)
+ended_so c file Unfinished line has = (λ e. absurd (cc), has)
+
+pub run_made : (c : Call) (file : List ℕ) (f : Finished) (line : List ℕ) → IsRunMade c file f line → IsMadeAs (run_work c) (file ∷ []) [] line (stopped_by f.outcome)
+run_made c file f line made = ended_so c file f.outcome line (has_run c file f line made)

@@ -1,8 +1,8 @@
 -- The code ranges of a section among all ranges are those that its listing goes along.
 use Rattle.std.proofs.Common.{◌≡◌, ◌<◌, ◌≤◌, ◌⊎◌, inl, inr, ℕ, ◌+◌, Bool, true, false, cond, List, [], ◌∷◌, ◌++◌, length, map, refl, sym, ap, ◌∙◌, subst, arith, append-nil, append_assoc, Some}
-use Rattle.std.specs.Prelude.{Contains, nat_lt, ◌==◌, ◌&&◌, ◌||◌, slice_get, filter}
+use Rattle.std.specs.Prelude.{Contains, nat_lt, ◌==◌, ◌&&◌, slice_get, filter}
 use Rattle.std.specs.List.{list_all}
-use Rattle.std.proofs.lemmas.Bool.{and_parts, and_from, or_cases, eqb-true, eq-eqb, ltb-true, both_ways, true≢false}
+use Rattle.std.proofs.lemmas.Bool.{and_parts, or_cases, eqb-true, eq-eqb, ltb-true, both_ways, true≢false}
 use Rattle.elf_model.specs.declared.objects.Section.{Section}
 use Rattle.elf_model.specs.declared.ranges.RangeKind.{RangeKind}
 use Rattle.elf_model.specs.declared.ranges.RangeKind.TheVariants.{Code, Arm, Data}
@@ -15,9 +15,9 @@ use Rattle.code_ranges.specs.CodeRanges.{is_below, rise}
 use Rattle.code_ranges.specs.Spans.{is_thumb, range_of}
 use Rattle.elf_model.proofs.Elements.{contains_cases, contains_here, contains_later, contains_none}
 use Rattle.code_ranges.proofs.RangeOrder.{range_ends, range_end_same, range_inside, code_length, section_sound}
-use Rattle.guard_cli.specs.Listings.{IsInCode, Listed, AreListed, heading, text_of_lines, IsListing}
+use Rattle.guard_cli.specs.Listings.{IsInCode, AreListed, heading, text_of_lines, IsListing}
 use Rattle.guard_cli.specs.Listings.AreListed.{none, code, other}
-use Rattle.guard_cli.specs.ListingSteps.{IsGap, AreAhead, AreApart, ListsContents, is_code_of, ListsSection, ListsBefore}
+use Rattle.guard_cli.specs.ListingSteps.{AreAhead, AreApart, ListsContents, is_code_of, ListsSection, ListsBefore}
 use Rattle.guard_cli.proofs.Leading.{text_append}
 
 -- what a filter keeps

@@ -1,12 +1,12 @@
 -- Which command the words are.
 use Rattle.std.specs.Prelude.{◌≡◌, ◌≤◌, ◌⊎◌, ℕ, List, [], ◌∷◌, length, ⊤}
 use Rattle.guard_cli.specs.declared.words.Command.{Command}
-use Rattle.guard_cli.specs.declared.words.Command.TheVariants.{Unknown, Early, Harden, Link, Run, List as Listing, NoMemory}
-use Rattle.guard_cli.specs.declared.words.LinkCommand.{LinkCommand}
-use Rattle.guard_cli.specs.declared.words.RunCommand.{RunCommand}
+use Rattle.guard_cli.specs.declared.words.Command.TheVariants.{Unknown, Early, Task as carried, NoMemory}
 use Rattle.guard_cli.specs.declared.words.Inputs.{Inputs}
 use Rattle.guard_cli.specs.declared.words.Inputs.TheVariants.{Unfit, One, Several}
-use Rattle.guard_cli.specs.Words.{Pair, IsHarden, LinkWords, IsLink, RunWords, IsRun, IsList, Skips, listed, drawn, IsCommand}
+use Rattle.guard_cli.specs.Words.{Pair, IsHarden, LinkWords, IsLink, RunWords, IsRun, IsList, Skips, listed, drawn}
+use Rattle.guard_cli.specs.Meanings.{Means, IsCommand}
+use Rattle.guard_cli.specs.Steps.{meaning_by}
 
 -- this input is the first
 abbrev pub IsFirst : List (List ℕ) → List ℕ → Type 0
@@ -31,12 +31,6 @@ IsEarlyRun words input = (r : RunWords) × IsRun words r × IsFirst r.inputs inp
 abbrev pub IsEarly : List (List ℕ) → List ℕ → Type 0
 IsEarly words input = IsEarlyHarden words input ⊎ IsEarlyLink words input ⊎ IsEarlyRun words input
 
-abbrev pub link_words : LinkCommand → LinkWords
-link_words c = record { at = c.at; output = c.output.now; inputs = c.input.now ∷ [] }
-
-abbrev pub run_words : RunCommand → RunWords
-run_words c = record { at = c.at; entry = c.entry.now; argument = c.argument; steps = c.steps; skips = listed c.plan; inputs = c.input.now ∷ [] }
-
 -- the first word
 abbrev pub IsHeadedBy : List ℕ → List (List ℕ) → Type 0
 IsHeadedBy word [] = ⊥
@@ -48,14 +42,11 @@ AreInputs files Unfit = 1 ≤ length files → length files ≤ 16 → ⊥
 AreInputs files (One input) = files ≡ input.now ∷ []
 AreInputs files (Several input) = IsFirst files input.now × (2 ≤ length files) × (length files ≤ 16)
 
--- What is said of the words by the command that they are read as. Memory is wanted only for the plan of a `run` with one input,
+-- what is said of the words by the command that they are read as. Memory is wanted only for the plan of a `run` with one input,
 -- and to bind the file word of `list`.
 abbrev pub IsUnderstoodAs : List (List ℕ) → Command → Type 0
 IsUnderstoodAs words Unknown = IsCommand words → ⊥
 IsUnderstoodAs words (Early input) = IsEarly words input.now
-IsUnderstoodAs words (Harden input output) = IsHarden words (record { input = input.now; output = output.now } ∷ [])
-IsUnderstoodAs words (Link c) = IsLink words (link_words c)
-IsUnderstoodAs words (Run c) = IsRun words (run_words c)
-IsUnderstoodAs words (Listing input) = IsList words input.now
+IsUnderstoodAs words (carried t) = Means words (meaning_by t)
 IsUnderstoodAs words NoMemory =
     ((r : RunWords) × (input steps : List ℕ) × IsRun words r × (r.inputs ≡ input ∷ []) × (r.skips ≡ listed steps)) ⊎ ((input : List ℕ) × IsList words input)

@@ -1,5 +1,5 @@
 -- What hardening promises: skips do no harm.
-use Rattle.std.specs.Prelude.{◌≡◌, ◌<◌, ◌≤◌, ◌⊎◌, ℕ, ◌*◌, ◌^◌, false, List, [], ◌∷◌, length, Some, All, slice_get, filter}
+use Rattle.std.specs.Prelude.{◌≡◌, ◌<◌, ◌≤◌, ◌⊎◌, ℕ, ◌*◌, ◌^◌, false, List, length, Some, All, slice_get, filter}
 use Rattle.elf_model.specs.declared.objects.Section.{Section}
 use Rattle.elf_model.specs.declared.objects.MapRow.{MapRow}
 use Rattle.elf_model.specs.Objects.{ObjectParts, is_code}

@@ -1,7 +1,6 @@
 -- How the text of a listing grows, from one offset of a section to another.
 use Rattle.std.specs.Prelude.{◌≡◌, ◌<◌, ◌≤◌, ◌⊎◌, ℕ, ◌+◌, ◌==◌, ◌&&◌, Bool, List, [], ◌∷◌, ◌++◌, length}
 use Rattle.elf_model.specs.declared.objects.Section.{Section}
-use Rattle.elf_model.specs.declared.ranges.RangeKind.{RangeKind}
 use Rattle.elf_model.specs.declared.ranges.RangeKind.TheVariants.{Code}
 use Rattle.elf_model.specs.Objects.{ObjectParts}
 use Rattle.elf_model.specs.Ranges.{IsRange, IsStart}

@@ -1,7 +1,8 @@
--- What comes of `run`: each ending, with its cause and with what it says.
-use Rattle.std.specs.Prelude.{◌≡◌, ◌≢◌, ◌↔◌, ◌<◌, ◌≤◌, ◌⊎◌, ℕ, Bool, true, List, [], ◌∷◌, Some, None, Ok, Err}
+-- The work of `run`: which runs there are, and what is said of them.
+use Rattle.std.specs.Prelude.{◌≡◌, ◌≢◌, ◌↔◌, ◌<◌, ◌≤◌, ◌⊎◌, ℕ, Bool, true, List, [], ◌∷◌, Some, None, Ok, Err, ⊤}
 use Rattle.elf_model.specs.declared.refusals.Refusal.TheVariants.{NoEntry}
 use Rattle.elf_model.specs.declared.refusals.Spot.{Spot}
+use Rattle.elf_model.specs.declared.refusals.TheConstants.Limit.{ANY}
 use Rattle.elf_model.specs.Objects.{ObjectParts}
 use Rattle.thumb_table.specs.declared.placements.Placement.{Placement}
 use Rattle.thumb_table.specs.declared.faults.FaultKind.{FaultKind}
@@ -16,11 +17,9 @@ use Rattle.skip_machine.specs.Runs.{RunEnds}
 use Rattle.std.specs.Option.{option_to_list}
 use Rattle.guard_cli.specs.FirstForm.{at_start}
 use Rattle.guard_cli.specs.Words.{RunWords}
-use Rattle.guard_cli.specs.declared.endings.Ending.{Ending}
-use Rattle.guard_cli.specs.declared.endings.Ending.TheVariants.{Done, Refused, Usage, ReadFault, WriteFault, PrintFault, NoMemory, Stopped}
-use Rattle.guard_cli.specs.Texts.{returned_line, stopped_line, unfinished_line, no_memory_line}
-use Rattle.guard_cli.specs.Runs.{Files, Screen, Untouched, IsPut, IsToldOf, IsCutOff, IsRefusedFor, IsUnread}
-use Rattle.guard_cli.specs.LinkRuns.{IsOf, IsLinkInputRefusal, IsLinkOf}
+use Rattle.guard_cli.specs.Texts.{returned_line, stopped_line, unfinished_line}
+use Rattle.guard_cli.specs.LinkWork.{IsOf, IsLinkInputRefusal}
+use Rattle.guard_cli.specs.Works.{Work, OfOne}
 
 -- the run that the words name
 pub record Call : Type 0 where
@@ -43,18 +42,19 @@ abbrev pub IsRunRefusal : Call → List ℕ → Spot → Type 0
 IsRunRefusal c file spot = IsLinkInputRefusal c.at file spot ⊎ ((spot ≡ at_start NoEntry) × HasNoEntry c file)
 
 -- the image of the input's object, and where the call starts
-pub record IsCallOf (c : Call) (files : Files) (image : Image) (s : State) : Type 0 where
+pub record IsCallOf (c : Call) (file : List ℕ) (image : Image) (s : State) : Type 0 where
   pub object : ObjectParts
-  pub linked : IsLinkOf c.at c.input files object image
+  pub input : IsOf file object
+  pub image_is : IsImage (object ∷ []) c.at image
   pub entry : ℕ
   pub entry_is : entry_of image.entries c.entry ≡ Some entry
   pub start_is : s ≡ start image c.at.stack entry c.arguments
 
 -- the run of the call, how it ends, and whether each executed step of it was ordinary
-pub record IsRunOf (c : Call) (files : Files) (outcome : Outcome) (n : ℕ) (t : State) (ordinary : Bool) : Type 0 where
+pub record IsRunOf (c : Call) (file : List ℕ) (outcome : Outcome) (n : ℕ) (t : State) (ordinary : Bool) : Type 0 where
   pub image : Image
   pub begun : State
-  pub call : IsCallOf c files image begun
+  pub call : IsCallOf c file image begun
   pub ends : RunEnds image.code (is_in c.schedule) c.steps 0 begun outcome n t
   pub ordinary_is : (ordinary ≡ true) ↔ OrdinaryRun image.code (is_in c.schedule) n 0 begun
 
@@ -64,28 +64,28 @@ run_line Returned n r0 ordinary = returned_line n r0 ordinary
 run_line (Fault kind pc) n r0 ordinary = stopped_line kind pc n
 run_line Unfinished n r0 ordinary = unfinished_line n
 
--- The run ended so, and nothing was touched.
-pub record HasRun (c : Call) (old new : Files) (outcome : Outcome) (line : List ℕ) : Type 0 where
+-- The run of the call ended so, and this line says it.
+pub record HasRun (c : Call) (file : List ℕ) (outcome : Outcome) (line : List ℕ) : Type 0 where
   pub steps : ℕ
   pub ended : State
   pub ordinary : Bool
-  pub run_is : IsRunOf c old outcome steps ended ordinary
+  pub run_is : IsRunOf c file outcome steps ended ordinary
   pub line_is : line ≡ run_line outcome steps (read ended.core 0).bits ordinary
-  pub untouched : Untouched old new
-
--- what each ending of `run .. IN` says
-abbrev pub RunEndsAs : Call → Files → Files → Screen → Screen → Ending → Type 0
-RunEndsAs c old new screen after Done = (line : List ℕ) × HasRun c old new Returned line × IsPut line screen after
-RunEndsAs c old new screen after (Refused spot) = IsRefusedFor (λ file. IsRunRefusal c file spot) c.input old new screen after spot
-RunEndsAs c old new screen after Usage = ⊥
-RunEndsAs c old new screen after ReadFault = IsUnread c.input old new screen after
-RunEndsAs c old new screen after WriteFault = ⊥
-RunEndsAs c old new screen after PrintFault = (line : List ℕ) × HasRun c old new Returned line × IsCutOff line screen after
-RunEndsAs c old new screen after NoMemory = Untouched old new × IsToldOf no_memory_line screen after
-RunEndsAs c old new screen after (Stopped outcome) = (outcome ≢ Returned) × (line : List ℕ) × HasRun c old new outcome line × IsToldOf line screen after
 
 -- a file whose object's call returns within its steps
 abbrev pub CanReturn : Call → List ℕ → Type 0
 CanReturn c file =
     (o : ObjectParts) × (image : Image) × IsOf file o × IsImage (o ∷ []) c.at image × (entry : ℕ) × (entry_of image.entries c.entry ≡ Some entry)
     × (t : State) × ReturnsWithin image.code (is_in c.schedule) c.steps 0 (start image c.at.stack entry c.arguments) t
+
+-- the work of `run` with one input and the steps that are skipped; no file is written
+abbrev pub run_work : Call → Work
+run_work c = record {
+  at_once = None;
+  inputs = record { name = c.input; limit = ANY.file } ∷ [];
+  Accepts = OfOne (CanReturn c);
+  Refuses = λ loaded spot. OfOne (λ file. IsRunRefusal c file spot) loaded;
+  Makes = λ loaded saves line. OfOne (λ file. (saves ≡ []) × HasRun c file Returned line) loaded;
+  Stops = λ loaded outcome line. OfOne (λ file. HasRun c file outcome line) loaded;
+  Promises = λ loaded saves report before after. ⊤;
+}

@@ -164,8 +164,3 @@ pub record IsRun (words : List (List ℕ)) (r : RunWords) : Type 0 where
 pub record IsList (words : List (List ℕ)) (input : List ℕ) : Type 0 where
   pub words_are : words ≡ codes "list" ∷ input ∷ []
   pub name : IsFileName input
-
-abbrev pub IsCommand : List (List ℕ) → Type 0
-IsCommand words =
-    ((pairs : List Pair) × IsHarden words pairs) ⊎ ((l : LinkWords) × IsLink words l) ⊎ ((r : RunWords) × IsRun words r)
-    ⊎ ((input : List ℕ) × IsList words input)

@@ -6,8 +6,8 @@ ghost use Rattle.guard_cli.specs.Listings.{heading, text_of_lines, IsListing};
 ghost use Rattle.guard_cli.specs.ListingSteps.{is_code_of, ListsSection};
 
 use crate::contents::push_contents;
-use elf_model::{Object, RangeKind, Section, is_code};
 use code_ranges::{Span, all_ranges};
+use elf_model::{Object, RangeKind, Section, is_code};
 use std::alloc::{AllocError, Global};
 
 /// The code ranges of a section.

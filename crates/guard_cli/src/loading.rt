@@ -6,17 +6,17 @@ ghost use Rattle.elf_model.specs.Objects.{is_code, is_within};
 ghost use Rattle.thumb_table.specs.Layouts.{IsPlacement};
 ghost use Rattle.thumb_table.specs.Images.{IsImage, is_data};
 ghost use Rattle.thumb_table.specs.LinkFaults.{IsLinkDenial};
+ghost use Rattle.guard_cli.specs.FirstForm.{at_start};
 ghost use Rattle.guard_cli.specs.Inputs.{IsTaken, IsInputRefusal, IsTurnedDown};
 ghost use Rattle.guard_cli.specs.Linkable.{IsLinkable};
-ghost use Rattle.guard_cli.specs.Runs.{files_seen, screen_seen, CountsGrow, CountsStay, Untouched};
-ghost use Rattle.guard_cli.specs.Outcomes.{LoadEndsAs};
+ghost use Rattle.guard_cli.specs.Moments.{files_seen, screen_seen, IsHandedOn, CountsStay, Untouched};
+ghost use Rattle.guard_cli.specs.Steps.{LoadFailsAs};
 
 use crate::Ending;
-use crate::commands::{tell, tell_made};
-use crate::decisions::at_start;
+use crate::finishing::{tell, tell_made};
 use crate::linkable::is_linkable;
 use crate::texts::{no_memory_text, read_fault_text};
-use elf_model::{Deny, Limit, Object, Refusal};
+use elf_model::{Deny, Limit, Object, Refusal, Spot};
 use elf_read::read_object;
 use flat_link::link;
 use guard_io::{LoadErr, Shelf, Sink};
@@ -36,15 +36,14 @@ pub(crate) fn load_input<S: Shelf, K: Sink>(
     ensures untouched { let files = files_seen S.tells S.file S.steady S.load_faults S.save_faults in Untouched (files shelf.old) (files shelf.new) }
     ensures failed { let files = files_seen S.tells S.file S.steady S.load_faults S.save_faults in
         let screen = screen_seen K.tells K.written K.steady K.faults in
-        IfErr result (LoadEndsAs input.now (files shelf.old) (files shelf.new) (screen out.old) (screen out.new)) }
-    ensures counts { let files = files_seen S.tells S.file S.steady S.load_faults S.save_faults in
+        IfErr result (LoadFailsAs input.now (files shelf.old) (files shelf.new) (screen out.old) (screen out.new)) }
+    ensures handed_on { let files = files_seen S.tells S.file S.steady S.load_faults S.save_faults in
         let screen = screen_seen K.tells K.written K.steady K.faults in
-        CountsGrow (files shelf.old) (files shelf.new) (screen out.old) (screen out.new) }
+        IsHandedOn (files shelf.old) (files shelf.new) (screen out.old) (screen out.new) }
     ensures calm { let files = files_seen S.tells S.file S.steady S.load_faults S.save_faults in
         let screen = screen_seen K.tells K.written K.steady K.faults in
         IsTrue (S.steady shelf.old) → IsTrue (K.steady out.old) → IsSome (S.file shelf.old input.now) →
         CountsStay (files shelf.old) (files shelf.new) (screen out.old) (screen out.new) }
-    ensures steady { IsTrue (S.steady shelf.old) → IsTrue (S.steady shelf.new) }
 {
     match shelf.load(alloc, input, most) {
         Ok(bytes) => Ok(bytes),
@@ -53,7 +52,7 @@ pub(crate) fn load_input<S: Shelf, K: Sink>(
             Err(Ending::ReadFault)
         }
         Err(LoadErr::Memory) => {
-            tell(out, no_memory_text());
+            tell(out, no_memory_text().as_bytes());
             Err(Ending::NoMemory)
         }
     }
@@ -86,4 +85,16 @@ pub(crate) fn image_of(alloc: Global, object: Object, at: &Placement) -> Result<
     let mut objects = Vec::new(alloc);
     objects.push(object)?;
     link(alloc, &objects, at)
+}
+
+/// A refusal of a whole input, the first one.
+pub(crate) fn at_start(refusal: Refusal) -> Spot
+    ensures { result ≡ at_start refusal }
+{
+    Spot {
+        refusal,
+        file: 0,
+        section: 0,
+        offset: 0,
+    }
 }

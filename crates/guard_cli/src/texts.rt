@@ -2,7 +2,7 @@
 
 ghost use Rattle.std.specs.Prelude.{◌≡◌, ◌∷◌, [], IfOk, string_bytes};
 ghost use Rattle.guard_cli.specs.Texts.{usage_line, no_memory_line, read_fault_line, write_fault_line, refused_line, details, yes_or_no, tally_line, report, link_line, returned_line, stopped_line, unfinished_line, word_text, fault_name};
-ghost use Rattle.guard_cli.specs.Outcomes.{tally_with};
+ghost use Rattle.guard_cli.specs.Steps.{tally_with};
 
 use elf_model::{Refusal, Spot};
 use std::alloc::{AllocError, Global};

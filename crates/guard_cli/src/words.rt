@@ -7,10 +7,10 @@ ghost use Rattle.guard_cli.specs.Commands.{AreInputs, IsHeadedBy, IsUnderstoodAs
 use crate::file_word::file_word;
 use crate::options::{are_file_names, arrange};
 use crate::settings::{Schedule, is_placing, placement_of, said_of, schedule_of};
+use crate::tasks::{LinkCommand, RunCommand, Task};
 use clap::error::ErrorKind;
 use skip_machine::Plan;
 use std::alloc::Global;
-use thumb_table::Placement;
 
 /// A command, as its words say it.
 #[derive(Debug, Drop)]
@@ -19,35 +19,10 @@ pub(crate) enum Command<'a> {
     Unknown,
     /// A command that is not handled yet, since it has several inputs or draws its steps; the first input.
     Early { input: &'a str },
-    /// `harden` with one pair of files.
-    Harden { input: &'a str, output: &'a str },
-    /// `link` with one input.
-    Link(LinkCommand<'a>),
-    /// `run` with one input and the steps that are skipped.
-    Run(RunCommand<'a>),
-    /// `list`.
-    List { input: &'a str },
+    /// A command that is carried out.
+    Task(Task<'a>),
     /// A command whose plan or file word could not be read for want of memory.
     NoMemory,
-}
-
-/// What is linked, where it is placed, and the file that takes the image.
-#[derive(Clone, Copy, Debug)]
-pub(crate) struct LinkCommand<'a> {
-    pub at: Placement,
-    pub output: &'a str,
-    pub input: &'a str,
-}
-
-/// What is run, and how: from the function `entry`, with `argument` in r0, for at most `steps` steps.
-#[derive(Debug, Drop)]
-pub(crate) struct RunCommand<'a> {
-    pub at: Placement,
-    pub entry: &'a str,
-    pub argument: Option<u32>,
-    pub steps: u64,
-    pub plan: Plan,
-    pub input: &'a str,
 }
 
 /// The command that the words are.
@@ -85,10 +60,10 @@ fn harden_of<'a>(names: &'a [String]) -> Command<'a>
             input: input.as_str(),
         };
     }
-    Command::Harden {
+    Command::Task(Task::Harden {
         input: input.as_str(),
         output: output.as_str(),
-    }
+    })
 }
 
 /// Whether the names are those of one to sixteen pairs of files.
@@ -121,11 +96,11 @@ fn link_of<'a>(words: &'a [String]) -> Command<'a>
     match inputs_of(inputs) {
         Inputs::Unfit => Command::Unknown,
         Inputs::Several(input) => Command::Early { input },
-        Inputs::One(input) => Command::Link(LinkCommand {
+        Inputs::One(input) => Command::Task(Task::Link(LinkCommand {
             at,
             output: output.as_str(),
             input,
-        }),
+        })),
     }
 }
 
@@ -148,14 +123,14 @@ fn run_of<'a>(alloc: Global, words: &'a [String]) -> Command<'a>
         Inputs::One(input) => match schedule {
             Schedule::Drawn(_) => Command::Early { input },
             Schedule::Listed(list) => match Plan::read(alloc, list, 2) {
-                Ok(plan) => Command::Run(RunCommand {
+                Ok(plan) => Command::Task(Task::Run(RunCommand {
                     at: said.at,
                     entry: said.entry,
                     argument: said.argument,
                     steps: said.steps,
                     plan,
                     input,
-                }),
+                })),
                 // The list is a plan, so that only memory was wanting.
                 Err(_) => Command::NoMemory,
             },
@@ -172,7 +147,7 @@ fn list_of<'a>(alloc: Global, words: &'a [String]) -> Command<'a>
         return Command::Unknown;
     }
     match file_word(alloc, words) {
-        Ok(Some(input)) => Command::List { input },
+        Ok(Some(input)) => Command::Task(Task::List { input }),
         Ok(None) => Command::Unknown,
         Err(e) => match e.kind() {
             ErrorKind::OutOfMemory => Command::NoMemory,

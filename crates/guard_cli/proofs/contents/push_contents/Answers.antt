@@ -1,4 +1,4 @@
-use Rattle.std.proofs.Common.{◌≡◌, ◌≤◌, ◌<◌, ◌+◌, ◌∷◌, [], List, length, drop, get_or, subst, arith}
+use Rattle.std.proofs.Common.{◌+◌, ◌∷◌, [], List, drop, get_or, subst, arith}
 use Rattle.std.proofs.lemmas.List.{drop_more, drop_all}
 use Rattle.elf_model.specs.declared.ranges.RangeKind.TheVariants.{Code}
 use Rattle.code_ranges.specs.declared.spans.Span.{Span}

@@ -1,6 +1,4 @@
-use Rattle.std.proofs.Common.{◌-◌, ◌≤◌, ℕ}
-use Rattle.elf_model.specs.Objects.{ObjectParts}
-use Rattle.guard_cli.specs.ListingSteps.{LeadsTo, IsGap}
+use Rattle.std.proofs.Common.{◌-◌}
 use Rattle.guard_cli.proofs.Leading.{IsOver}
 use Rattle.guard_cli.proofs.contents.push_data.Given as goal
 

@@ -1,4 +1,4 @@
-use Rattle.std.proofs.Common.{rules, ◌≡◌, ap, ap₂, ◌∙◌, sym, codes, true, List, ℕ, map, string_bytes}
+use Rattle.std.proofs.Common.{rules, ◌≡◌, ap, ap₂, ◌∙◌, codes, List, ℕ, map, string_bytes}
 use Rattle.clap.specs.Words.{App, app_of, first_of, found_of, is_simple, matches_of, rule_of, takes, with_rule}
 use Rattle.clap.proofs.WalkLemmas.{first_value-rows}
 use Rattle.guard_cli.proofs.FileWords.{file_rule, list_app, list_is_taken, list_is_found, list_is_simple}

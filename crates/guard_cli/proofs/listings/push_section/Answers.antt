@@ -1,5 +1,4 @@
 use Rattle.std.proofs.Common.{◌≡◌, ℕ, List, [], ◌∷◌, ◌++◌, length, sym, ap, ◌∙◌, subst, arith, Result, Ok, Err, OnOk}
-use Rattle.code_ranges.specs.declared.spans.Span.{Span}
 use Rattle.elf_model.specs.Objects.{ObjectParts}
 use Rattle.guard_cli.specs.Listings.{heading, text_of_lines}
 use Rattle.guard_cli.specs.ListingSteps.{AreAhead, AreApart, ListsContents, ListsSection}

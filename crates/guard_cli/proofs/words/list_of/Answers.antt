@@ -1,5 +1,4 @@
-use Rattle.std.proofs.Common.{◌≡◌, List, ℕ, Option, Some, map, length, string_bytes, refl, sym, inr, subst, arith}
-use Rattle.std.specs.Prelude.{option_map}
+use Rattle.std.proofs.Common.{◌≡◌, List, ℕ, Some, map, string_bytes, refl, inr, subst, arith}
 use Rattle.guard_cli.specs.Words.{IsList}
 use Rattle.guard_cli.proofs.FileWords.{two_words}
 use Rattle.guard_cli.proofs.words.list_of.Goals as goal

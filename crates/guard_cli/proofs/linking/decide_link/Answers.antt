@@ -1,6 +1,0 @@
-use Rattle.std.proofs.Common.{[], ◌∷◌}
-use Rattle.guard_cli.proofs.SameImages.{code_in_room}
-use Rattle.guard_cli.proofs.linking.decide_link.Goals as goal
-
-pub bytes-requires : goal.bytes-requires
-bytes-requires c = code_in_room (c.in_ok-object.object ∷ []) c.args.at.now c.in_ok-image.image c.in_ok-image.ensures.image

@@ -1,0 +1,154 @@
+-- What the steps of a command say.
+use Rattle.std.specs.Prelude.{◌≡◌, ◌≢◌, ◌≤◌, ◌↔◌, ℕ, true, List, [], ◌∷◌, map, Option, Some, None, ⊤, IsTrue, string_bytes}
+use Rattle.std.specs.Option.{option_to_list}
+use Rattle.elf_model.specs.declared.refusals.TheConstants.Limit.{INPUT, ANY}
+use Rattle.thumb_table.specs.Parts.{Image}
+use Rattle.thumb_table.specs.States.{State, read}
+use Rattle.thumb_table.specs.Schedules.{is_in, OrdinaryRun}
+use Rattle.thumb_table.specs.Layouts.{IsPlacement}
+use Rattle.skip_machine.specs.declared.machines.Outcome.{Outcome}
+use Rattle.skip_machine.specs.declared.machines.Outcome.TheVariants.{Returned}
+use Rattle.skip_machine.specs.Runs.{RunEnds}
+use Rattle.guard_cli.specs.declared.endings.Ending.{Ending}
+use Rattle.guard_cli.specs.declared.endings.Ending.TheVariants.{Done, ReadFault, WriteFault, PrintFault, NoMemory, Stopped}
+use Rattle.guard_cli.specs.declared.tasks.LinkCommand.{LinkCommand}
+use Rattle.guard_cli.specs.declared.tasks.Made.{Made}
+use Rattle.guard_cli.specs.declared.tasks.Output.{Output}
+use Rattle.guard_cli.specs.declared.tasks.RunCommand.{RunCommand}
+use Rattle.guard_cli.specs.declared.tasks.Task.{Task}
+use Rattle.guard_cli.specs.declared.tasks.Task.TheVariants as task
+use Rattle.guard_cli.specs.declared.run.Finished.{Finished}
+use Rattle.guard_cli.specs.declared.texts.Counts.{Counts}
+use Rattle.guard_cli.specs.Words.{LinkWords, RunWords, listed}
+use Rattle.guard_cli.specs.Texts.{Tally, no_memory_line, read_fault_line}
+use Rattle.guard_cli.specs.Moments.{Files, Screen, Untouched, IsPut, IsCutOff, IsToldOf}
+use Rattle.guard_cli.specs.Works.{Save, Work}
+use Rattle.guard_cli.specs.Endings.{FinishesAs, IsUnsaved, IsPartlyDone}
+use Rattle.guard_cli.specs.MachineRuns.{Call}
+use Rattle.guard_cli.specs.Meanings.{Meaning, harden, link, run, list, work_of}
+use Rattle.guard_io.specs.Outside.{Rose}
+
+abbrev pub link_words : LinkCommand → LinkWords
+link_words c = record { at = c.at; output = c.output.now; inputs = c.input.now ∷ [] }
+
+abbrev pub run_words : RunCommand → RunWords
+run_words c = record { at = c.at; entry = c.entry.now; argument = c.argument; steps = c.steps; skips = listed c.plan; inputs = c.input.now ∷ [] }
+
+-- the run that a command names
+abbrev pub call_by : RunCommand → Call
+call_by c = record { at = c.at; input = c.input.now; entry = c.entry.now; arguments = option_to_list c.argument; steps = c.steps; schedule = c.plan }
+
+-- what the words of a command mean that is carried out, and its work
+abbrev pub meaning_by : Task → Meaning
+meaning_by (task.Harden input output) = harden (record { input = input.now; output = output.now } ∷ [])
+meaning_by (task.Link c) = link (link_words c)
+meaning_by (task.Run c) = run (run_words c)
+meaning_by (task.List input) = list input.now
+
+abbrev pub work_by : Task → Work
+work_by t = work_of (meaning_by t)
+
+-- its input, and how many bytes that may have
+abbrev pub input_by : Task → List ℕ
+input_by (task.Harden input output) = input.now
+input_by (task.Link c) = c.input.now
+input_by (task.Run c) = c.input.now
+input_by (task.List input) = input.now
+
+abbrev pub limit_by : Task → ℕ
+limit_by (task.Harden input output) = INPUT.file
+limit_by (task.Link c) = ANY.file
+limit_by (task.Run c) = ANY.file
+limit_by (task.List input) = ANY.file
+
+-- numbers that the words of a command have
+abbrev pub IsSound : Task → Type 0
+IsSound (task.Harden input output) = ⊤
+IsSound (task.Link c) = IsPlacement c.at
+IsSound (task.Run c) = IsPlacement c.at × (c.steps ≤ 10000000)
+IsSound (task.List input) = ⊤
+
+-- the outputs as the files that are saved
+abbrev pub save_of : Output → Save
+save_of o = record { name = string_bytes o.name; bytes = o.bytes.items }
+
+abbrev pub saves_of : List Output → List Save
+saves_of outputs = map save_of outputs
+
+-- what is made of what was loaded
+abbrev pub IsMadeAs : Work → List (List ℕ) → List Save → List ℕ → Option Outcome → Type 0
+IsMadeAs w loaded saves report None = w.Makes loaded saves report
+IsMadeAs w loaded saves report (Some outcome) = (outcome ≢ Returned) × w.Stops loaded outcome report
+
+abbrev pub IsMadeBy : Work → List (List ℕ) → Made → Type 0
+IsMadeBy w loaded made = IsMadeAs w loaded (saves_of made.outputs.items) made.report.items made.stopped
+
+-- one file and a report
+pub record IsSaving (name bytes report : List ℕ) (made : Made) : Type 0 where
+  pub outputs : saves_of made.outputs.items ≡ record { name = name; bytes = bytes } ∷ []
+  pub report_is : made.report.items ≡ report
+  pub ran_on : made.stopped ≡ None
+
+-- a report alone
+pub record IsSaying (report : List ℕ) (stopped : Option Outcome) (made : Made) : Type 0 where
+  pub outputs : saves_of made.outputs.items ≡ []
+  pub report_is : made.report.items ≡ report
+  pub stopped_is : made.stopped ≡ stopped
+
+-- how a command ends that has made this
+abbrev pub MadeAsEndsAs : List Save → List ℕ → Option Outcome → Files → Files → Screen → Screen → Ending → Type 0
+MadeAsEndsAs saves report None old new screen after ending = FinishesAs saves report old new screen after ending
+MadeAsEndsAs saves report (Some outcome) old new screen after ending = (ending ≡ Stopped outcome) × Untouched old new × IsToldOf report screen after
+
+abbrev pub MadeEndsAs : Made → Files → Files → Screen → Screen → Ending → Type 0
+MadeEndsAs made old new screen after ending = MadeAsEndsAs (saves_of made.outputs.items) made.report.items made.stopped old new screen after ending
+
+-- how a command ends that has saved its outputs
+abbrev pub ReportEndsAs : List ℕ → Screen → Screen → Ending → Type 0
+ReportEndsAs report screen after Done = IsPut report screen after
+ReportEndsAs report screen after PrintFault = IsCutOff report screen after
+ReportEndsAs report screen after NoMemory = IsToldOf no_memory_line screen after
+ReportEndsAs report screen after _ = ⊥
+
+-- how a command ends that could not save one of its outputs
+abbrev pub SaveFailsAs : List Save → Files → Files → Screen → Screen → Ending → Type 0
+SaveFailsAs saves old new screen after WriteFault = IsUnsaved saves old new screen after
+SaveFailsAs saves old new screen after NoMemory = IsPartlyDone saves old new screen after
+SaveFailsAs saves old new screen after _ = ⊥
+
+-- a file could not be read
+pub record IsNotLoaded (name : List ℕ) (old new : Files) (screen after : Screen) : Type 0 where
+  pub cause : Rose old.load_faults new.load_faults
+  pub absent : IsTrue old.steady → old.content name ≡ None
+  pub said : IsToldOf (read_fault_line name) screen after
+
+-- how a command ends that could not load its input
+abbrev pub LoadFailsAs : List ℕ → Files → Files → Screen → Screen → Ending → Type 0
+LoadFailsAs name old new screen after ReadFault = IsNotLoaded name old new screen after
+LoadFailsAs name old new screen after NoMemory = IsToldOf no_memory_line screen after
+LoadFailsAs name old new screen after _ = ⊥
+
+-- the counts of an output of this name
+abbrev pub tally_with : List ℕ → Counts → Tally
+tally_with output n = record {
+  output = output;
+  functions = n.functions;
+  before = n.before;
+  after = n.after;
+  old_bytes = n.old_bytes;
+  new_bytes = n.new_bytes;
+  dropped = n.dropped;
+  factor = n.factor;
+}
+
+-- the end of a run that did not return
+abbrev pub stopped_by : Outcome → Option Outcome
+stopped_by Returned = None
+stopped_by outcome = Some outcome
+
+-- how a run on an image ended
+pub record IsFinished (image : Image) (schedule : List ℕ) (most : ℕ) (begun : State) (f : Finished) : Type 0 where
+  pub ended : State
+  pub ends : RunEnds image.code (is_in schedule) most 0 begun f.outcome f.steps ended
+  pub r0_is : f.r0 ≡ (read ended.core 0).bits
+  pub ordinary_is : (f.ordinary ≡ true) ↔ OrdinaryRun image.code (is_in schedule) f.steps 0 begun
