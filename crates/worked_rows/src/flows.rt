@@ -186,6 +186,11 @@ fn told(alloc: Global, f: &Flow) -> Result<String, AllocError> {
     Ok(text)
 }
 
+/// The text with the mark that stands before each point.
+fn marked(alloc: Global, text: &str) -> Result<String, AllocError> {
+    format!(in alloc; "; {text}")
+}
+
 fn recovered(rt: &impl Abort, alloc: Global, case: &Case) -> Flow {
     let o = sample(alloc, case.0, case.1, case.2)
         .expect(rt, "memory")
@@ -200,7 +205,7 @@ fn recovers_flows(rt: HostRuntime) {
     for (k, case) in CASES.iter().enumerate() {
         let f = recovered(&rt, alloc, case);
         let found = told(alloc, &f).expect(&rt, "memory");
-        let want = format!(in alloc; "; {}", case.3).expect(&rt, "memory");
+        let want = marked(alloc, case.3).expect(&rt, "memory");
         assert_eq!(rt; found.as_str(), want.as_str(), "case {k}");
         assert_eq!(rt; f.entries(), case.4, "case {k}");
         assert!(rt; f.points().iter().all(|p| p.section == 0), "case {k}");
