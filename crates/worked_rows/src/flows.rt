@@ -199,16 +199,22 @@ fn recovered(rt: &impl Abort, alloc: Global, case: &Case) -> Flow {
     recover(alloc, &o).expect(rt, "a flow")
 }
 
+/// Finds the flow of a case.
+fn finds(rt: &impl Abort, alloc: Global, k: usize, case: &Case) {
+    let f = recovered(rt, alloc, case);
+    let found = told(alloc, &f).expect(rt, "memory");
+    let want = marked(alloc, case.3).expect(rt, "memory");
+    assert_eq!(rt; found.as_str(), want.as_str(), "case {k}");
+    assert_eq!(rt; f.entries(), case.4, "case {k}");
+    for p in f.points() {
+        assert_eq!(rt; p.section, 0, "case {k}");
+    }
+}
+
 #[test]
 fn recovers_flows(rt: HostRuntime) {
-    let alloc = rt.alloc();
     for (k, case) in CASES.iter().enumerate() {
-        let f = recovered(&rt, alloc, case);
-        let found = told(alloc, &f).expect(&rt, "memory");
-        let want = marked(alloc, case.3).expect(&rt, "memory");
-        assert_eq!(rt; found.as_str(), want.as_str(), "case {k}");
-        assert_eq!(rt; f.entries(), case.4, "case {k}");
-        assert!(rt; f.points().iter().all(|p| p.section == 0), "case {k}");
+        finds(&rt, rt.alloc(), k, case);
     }
 }
 

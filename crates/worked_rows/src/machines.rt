@@ -99,11 +99,11 @@ fn image(rt: &impl Abort, alloc: Global, code: &[u16]) -> Result<Image, AllocErr
 #[test]
 fn runs_under_plans(rt: HostRuntime) -> Result<(), Fail> {
     let alloc = rt.alloc();
-    for ((code, args, skips, most), (outcome, steps, r0, ordinary)) in ROWS {
+    for ((code, [first, second], skips, most), (outcome, steps, r0, ordinary)) in ROWS {
         assert!(rt; most <= 10_000);
         let mut machine = Machine::new(alloc, &image(&rt, alloc, code)?, 64)?;
         let plan = Plan::read(alloc, skips, 2)?;
-        machine.start(0x8001, &args);
+        machine.start(0x8001, &[first, second]);
         assert_eq!(rt; machine.run(most, &plan), outcome, "{skips} of {code:?}");
         assert_eq!(rt; machine.steps(), steps, "{skips} of {code:?}");
         assert_eq!(rt; machine.registers().r[0].bits(), r0, "{skips} of {code:?}");
