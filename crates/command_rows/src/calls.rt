@@ -33,6 +33,12 @@ fn words_of(alloc: Global, line: &str) -> Result<Vec<String>, AllocError> {
     Ok(words)
 }
 
+/// A file of a shelf.
+pub(crate) fn named(alloc: Global, name: &str, bytes: &[u8]) -> Result<NamedFile, AllocError> {
+    let name = Name::new(Vec::from_slice(alloc, name.as_bytes())?);
+    Ok(NamedFile::new(name, Vec::from_slice(alloc, bytes)?))
+}
+
 /// Carries out a command that saves `b.o`, `i.bin` or nothing, and compares what comes of it.
 pub(crate) fn answers(
     rt: &impl Abort,
@@ -43,15 +49,27 @@ pub(crate) fn answers(
 ) -> Result<(), Fail> {
     let mut files = Vec::new(alloc);
     for (name, bytes) in call.files {
-        let name = Name::new(Vec::from_slice(alloc, name.as_bytes())?);
-        files.push(NamedFile::new(name, Vec::from_slice(alloc, bytes)?))?;
+        files.push(named(alloc, name, bytes)?)?;
     }
+    let fails = (call.shelf_fails, call.sink_fails);
+    answers_over(rt, alloc, files, call.words, fails, output, want)
+}
+
+/// The same over files. The calls that fail are those on the shelf and those on the sink.
+pub(crate) fn answers_over(
+    rt: &impl Abort,
+    alloc: Global,
+    files: Vec<NamedFile>,
+    line: &str,
+    fails: (&[u64], &[u64]),
+    output: &str,
+    want: Answer<'_>,
+) -> Result<(), Fail> {
     assert!(rt; have_different_names(&files));
-    let mut shelf = MemShelf::new(alloc, files, Vec::from_slice(alloc, call.shelf_fails)?);
-    let mut out = MemSink::new(alloc, Vec::from_slice(alloc, call.sink_fails)?);
-    let words = words_of(alloc, call.words)?;
+    let mut shelf = MemShelf::new(alloc, files, Vec::from_slice(alloc, fails.0)?);
+    let mut out = MemSink::new(alloc, Vec::from_slice(alloc, fails.1)?);
+    let words = words_of(alloc, line)?;
     let ending = guard_main(alloc, &words, &mut shelf, &mut out);
-    let line = call.words;
     assert_eq!(rt; out.bytes(), want.1.as_bytes(), "{line}");
     assert_eq!(rt; ending.status(), want.0, "{line}");
     assert_eq!(rt; shelf.file(output), want.2, "{line}");

@@ -94,3 +94,11 @@ pub(crate) fn plain_with(place: usize, byte: u8) -> [u8; 344] {
     }
     file
 }
+
+/// The header of the plain file alone, with no sections.
+pub(crate) fn without_sections() -> [u8; 52] {
+    let mut header = [0; 52];
+    header.copy_from_slice(&PLAIN[..52]);
+    header[48] = 0;
+    header
+}

@@ -1,5 +1,5 @@
 use crate::calls::{Answer, Call, answers};
-use crate::files::{FIVE, HARDENED, PLAIN, WITH_DEBUG, plain_with};
+use crate::files::{FIVE, HARDENED, PLAIN, WITH_DEBUG, plain_with, without_sections};
 use std::test::Fail;
 
 const REPORT: &str =
@@ -20,7 +20,7 @@ const SIXTEEN_PAIRS: &str =
 fn hardens_and_refuses_files(rt: HostRuntime) -> Result<(), Fail> {
     let long = vec![in rt.alloc(); 0u8; 1_048_577]?;
     let most = vec![in rt.alloc(); 0u8; 1_048_576]?;
-    let empty = plain_with(48, 0);
+    let empty = without_sections();
     let adds = [0x01, 0x30];
     let mut adding = PLAIN;
     adding[52..54].copy_from_slice(&adds);
@@ -42,7 +42,7 @@ fn hardens_and_refuses_files(rt: HostRuntime) -> Result<(), Fail> {
             &PLAIN[..80],
             (1, "a.o: refused 3 BadTable section 0 offset 32\n", None),
         ),
-        (&empty[..52], (1, NOT_YET, None)),
+        (&empty, (1, NOT_YET, None)),
         (&adding, (1, NOT_YET, None)),
     ];
     for (file, want) in rows {

@@ -1,8 +1,9 @@
 //! Rows of `link` and `run`.
 
-use crate::calls::{Answer, Call, USAGE, answers};
+use crate::calls::{Answer, USAGE, answers_over, named};
 use crate::files::{FIVE, HARDENED, IMAGE, PLAIN, of_code};
-use std::alloc::Global;
+use guard_io::NamedFile;
+use std::alloc::{AllocError, Global};
 use std::process::Abort;
 use std::test::Fail;
 
@@ -73,6 +74,26 @@ const RUNS: [(&str, u8, &str); 13] = [
     ),
 ];
 
+/// The files of these rows.
+fn files(alloc: Global) -> Result<Vec<NamedFile>, AllocError> {
+    // mov.w r1, #1000; subs r1, #1; bne back; bx lr
+    let loop_bytes = [0x4f, 0xf4, 0x7a, 0x71, 0x01, 0x39, 0xfd, 0xd1, 0x70, 0x47];
+    let adds = of_code([0x01, 0x30, 0x70, 0x47, 0, 0, 0, 0, 0, 0], 4, 0);
+    let loads = of_code([0x00, 0x68, 0x70, 0x47, 0, 0, 0, 0, 0, 0], 4, 0);
+    // mov r0, lr; adds r0, #1; bx lr
+    let address = of_code([0x70, 0x46, 0x01, 0x30, 0x70, 0x47, 0, 0, 0, 0], 6, 0);
+    let mut all = Vec::new(alloc);
+    all.push(named(alloc, "a.o", &PLAIN)?)?;
+    all.push(named(alloc, "b.o", &HARDENED)?)?;
+    all.push(named(alloc, "five.o", &FIVE)?)?;
+    all.push(named(alloc, "adds.o", &adds)?)?;
+    all.push(named(alloc, "loads.o", &loads)?)?;
+    all.push(named(alloc, "lr.o", &address)?)?;
+    all.push(named(alloc, "loops.o", &of_code(loop_bytes, 10, 0))?)?;
+    all.push(named(alloc, "short.o", &PLAIN[..51])?)?;
+    Ok(all)
+}
+
 /// A command over the files of these rows.
 fn prints(
     rt: &impl Abort,
@@ -81,29 +102,7 @@ fn prints(
     fails: (&[u64], &[u64]),
     want: Answer<'_>,
 ) -> Result<(), Fail> {
-    let adds = of_code([0x01, 0x30, 0x70, 0x47, 0, 0, 0, 0, 0, 0], 4, 0);
-    let loads = of_code([0x00, 0x68, 0x70, 0x47, 0, 0, 0, 0, 0, 0], 4, 0);
-    // mov r0, lr; adds r0, #1; bx lr
-    let address = of_code([0x70, 0x46, 0x01, 0x30, 0x70, 0x47, 0, 0, 0, 0], 6, 0);
-    // mov.w r1, #1000; subs r1, #1; bne back; bx lr
-    let loop_bytes = [0x4f, 0xf4, 0x7a, 0x71, 0x01, 0x39, 0xfd, 0xd1, 0x70, 0x47];
-    let loops = of_code(loop_bytes, 10, 0);
-    let call = Call {
-        words,
-        files: &[
-            ("a.o", &PLAIN),
-            ("b.o", &HARDENED),
-            ("five.o", &FIVE),
-            ("adds.o", &adds),
-            ("loads.o", &loads),
-            ("lr.o", &address),
-            ("loops.o", &loops),
-            ("short.o", &PLAIN[..51]),
-        ],
-        shelf_fails: fails.0,
-        sink_fails: fails.1,
-    };
-    answers(rt, alloc, &call, "i.bin", want)
+    answers_over(rt, alloc, files(alloc)?, words, fails, "i.bin", want)
 }
 
 #[test]

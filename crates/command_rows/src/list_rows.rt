@@ -1,5 +1,5 @@
 use crate::calls::{Call, answers};
-use crate::files::{PLAIN, of_code, plain_with};
+use crate::files::{PLAIN, of_code, without_sections};
 use std::alloc::Global;
 use std::process::Abort;
 use std::test::Fail;
@@ -51,14 +51,14 @@ fn lists_code_and_data(rt: HostRuntime) -> Result<(), Fail> {
 
 #[test]
 fn lists_and_refuses_files(rt: HostRuntime) -> Result<(), Fail> {
-    let bare = plain_with(48, 0);
+    let bare = without_sections();
     let rows: [(&[u8], u8, &str); 3] = [
         (
             &PLAIN,
             0,
             "section 0 .text\n00000000  movs r0, #5\n00000002  bx lr\n",
         ),
-        (&bare[..52], 0, ""),
+        (&bare, 0, ""),
         (
             &PLAIN[..51],
             1,
