@@ -7,4 +7,5 @@ pub mod Standing
 pub mod DataCovering
 pub mod FullMeanings
 pub mod FullCovering
+pub mod Putting
 pub mod Examples

@@ -1,0 +1,151 @@
+-- Fields put together fit their pattern, and the row answers for them what it makes of them.
+use Rattle.std.proofs.Common.{◌≡◌, ℕ, ◌+◌, ◌-◌, ◌*◌, ◌/◌, ◌%◌, ◌^◌, ◌<◌, ◌≤◌, Bool, true, false, List, [], ◌∷◌, refl, ap, sym, ◌∙◌, subst, arith, zero, suc, nat_le, ◌==◌, ◌&&◌, if◌then◌else◌, Ok, Err}
+use Rattle.std.proofs.lemmas.Nat.{shr-shr, shr_high, mod_low}
+use Rattle.std.proofs.lemmas.Bool.{and_parts, and_from, eq-eqb, leb-true}
+use Rattle.thumb_instr.specs.declared.instructions.Instr.{Instr}
+use Rattle.thumb_instr.specs.declared.refusals.BadInstr.TheVariants.{Unknown}
+use Rattle.thumb_instr.specs.Patterns.{Bits, Fixed, Field, Made, Row, Answer, cut, fits, filled_in, decoded}
+use Rattle.thumb_decode.specs.KnownBits.{HasBits, with_bits}
+use Rattle.thumb_decode.proofs.KnownBits.{bit_of_cut, known_bits}
+use Rattle.thumb_encode.proofs.Covering.{if_true, if_false}
+
+-- the fields of a pattern
+abbrev pub Fields : List Bits → Type 0
+Fields [] = Unit {0}
+Fields (Fixed w v ∷ ps) = Fields ps
+Fields (Field w ∷ ps) = (_ : ℕ) × Fields ps
+
+-- each is below its bound
+abbrev pub AreSmall : (ps : List Bits) → Fields ps → Type 0
+AreSmall [] fs = Unit {0}
+AreSmall (Fixed w v ∷ ps) fs = (v < 2 ^ w) × AreSmall ps fs
+AreSmall (Field w ∷ ps) fs = (fs.0 < 2 ^ w) × AreSmall ps fs.1
+
+abbrev pub size : List Bits → ℕ
+size [] = 0
+size (Fixed w v ∷ ps) = w + size ps
+size (Field w ∷ ps) = w + size ps
+
+-- the bits behind those of high
+abbrev pub put : (ps : List Bits) → Fields ps → ℕ → ℕ
+put [] fs high = high
+put (Fixed w v ∷ ps) fs high = put ps fs (high * 2 ^ w + v)
+put (Field w ∷ ps) fs high = put ps fs.1 (high * 2 ^ w + fs.0)
+
+abbrev pub applied : (ps : List Bits) → Made ps → Fields ps → Answer
+applied [] answer fs = answer
+applied (Fixed w v ∷ ps) f fs = applied ps f fs
+applied (Field w ∷ ps) f fs = applied ps (f fs.0) fs.1
+
+-- the cuts of a number are these
+abbrev pub Cuts : (ps : List Bits) → Fields ps → ℕ → ℕ → Type 0
+Cuts [] fs top h = Unit {0}
+Cuts (Fixed w v ∷ ps) fs top h = (cut h top w ≡ v) × Cuts ps fs (top - w) h
+Cuts (Field w ∷ ps) fs top h = (cut h top w ≡ fs.0) × Cuts ps fs.1 (top - w) h
+
+one_more : (x w s high v : ℕ) → v < 2 ^ w → x / 2 ^ s ≡ high * 2 ^ w + v → x / 2 ^ (w + s) ≡ high
+one_more x w s high v less is =
+    let order : s + w ≡ w + s = omega arith in
+    ap (λ (k : ℕ). x / 2 ^ k) (sym order) ∙ sym (shr-shr x s w) ∙ ap (λ (k : ℕ). k / 2 ^ w) is ∙ shr_high high w v less
+
+put_high : (ps : List Bits) (fs : Fields ps) (high : ℕ) → AreSmall ps fs → put ps fs high / 2 ^ size ps ≡ high
+put_high [] fs high small = omega arith
+put_high (Fixed w v ∷ ps) fs high small = one_more (put ps fs (high * 2 ^ w + v)) w (size ps) high v small.0 (put_high ps fs (high * 2 ^ w + v) small.1)
+put_high (Field w ∷ ps) fs high small = one_more (put ps fs.1 (high * 2 ^ w + fs.0)) w (size ps) high fs.0 small.0 (put_high ps fs.1 (high * 2 ^ w + fs.0) small.1)
+
+one_cut : (x top w s high v : ℕ) → top ≡ w + s → v < 2 ^ w → x / 2 ^ s ≡ high * 2 ^ w + v → cut x top w ≡ v
+one_cut x top w s high v is less top_is =
+    let rest : top - w ≡ s = omega arith in
+    ap (λ (k : ℕ). x / 2 ^ k % 2 ^ w) rest ∙ ap (λ (k : ℕ). k % 2 ^ w) top_is ∙ mod_low high w v less
+
+put_cuts : (ps : List Bits) (fs : Fields ps) (high top : ℕ) → top ≡ size ps → AreSmall ps fs → Cuts ps fs top (put ps fs high)
+put_cuts [] fs high top is small = tt
+put_cuts (Fixed w v ∷ ps) fs high top is small =
+    let rest : top - w ≡ size ps = omega arith in
+    (one_cut (put ps fs (high * 2 ^ w + v)) top w (size ps) high v is small.0 (put_high ps fs (high * 2 ^ w + v) small.1), put_cuts ps fs (high * 2 ^ w + v) (top - w) rest small.1)
+put_cuts (Field w ∷ ps) fs high top is small =
+    let rest : top - w ≡ size ps = omega arith in
+    (one_cut (put ps fs.1 (high * 2 ^ w + fs.0)) top w (size ps) high fs.0 is small.0 (put_high ps fs.1 (high * 2 ^ w + fs.0) small.1), put_cuts ps fs.1 (high * 2 ^ w + fs.0) (top - w) rest small.1)
+
+cuts_fit : (ps : List Bits) (fs : Fields ps) (top h : ℕ) → Cuts ps fs top h → fits ps top h ≡ true
+cuts_fit [] fs top h cuts = refl
+cuts_fit (Fixed w v ∷ ps) fs top h cuts = and_from (cut h top w == v) (fits ps (top - w) h) (eq-eqb (cut h top w) v cuts.0) (cuts_fit ps fs (top - w) h cuts.1)
+cuts_fit (Field w ∷ ps) fs top h cuts = cuts_fit ps fs.1 (top - w) h cuts.1
+
+cuts_fill : (ps : List Bits) (f : Made ps) (fs : Fields ps) (top h : ℕ) → Cuts ps fs top h → filled_in ps f top h ≡ applied ps f fs
+cuts_fill [] f fs top h cuts = refl
+cuts_fill (Fixed w v ∷ ps) f fs top h cuts = cuts_fill ps f fs (top - w) h cuts.1
+cuts_fill (Field w ∷ ps) f fs top h cuts =
+    ap (λ (k : ℕ). filled_in ps (f k) (top - w) h) cuts.0 ∙ cuts_fill ps (f fs.0) fs.1 (top - w) h cuts.1
+
+-- the lowest k of the bits of v, which stand from bit `low` on
+abbrev pub bits_from : ℕ → ℕ → ℕ → List (ℕ × ℕ) → List (ℕ × ℕ)
+bits_from low v zero rest = rest
+bits_from low v (suc k) rest = (low + k, v / 2 ^ k % 2) ∷ bits_from low v k rest
+
+-- the bits that a pattern fixes
+abbrev pub fixed_bits : List Bits → ℕ → List (ℕ × ℕ)
+fixed_bits [] top = []
+fixed_bits (Fixed w v ∷ ps) top = bits_from (top - w) v w (fixed_bits ps (top - w))
+fixed_bits (Field w ∷ ps) top = fixed_bits ps (top - w)
+
+has_from : (h top w v k : ℕ) (rest : List (ℕ × ℕ)) → w ≤ top → top ≤ 32 → k ≤ w → cut h top w ≡ v → HasBits h rest → HasBits h (bits_from (top - w) v k rest)
+has_from h top w v zero rest inside small most is has = has
+has_from h top w v (suc k) rest inside small most is has =
+    let at = top - w + k in
+    let low : top - w ≤ at = omega arith in
+    let high : at < top = omega arith in
+    let back : at - (top - w) ≡ k = omega arith in
+    let less : at < 32 = omega arith in
+    let fewer : k ≤ w = omega arith in
+    (less, sym (bit_of_cut h top w at inside low high) ∙ ap (λ (j : ℕ). cut h top w / 2 ^ j % 2) back ∙ ap (λ (x : ℕ). x / 2 ^ k % 2) is,
+    has_from h top w v k rest inside small fewer is has)
+
+cuts_have : (ps : List Bits) (fs : Fields ps) (top h : ℕ) → top ≡ size ps → top ≤ 32 → Cuts ps fs top h → HasBits h (fixed_bits ps top)
+cuts_have [] fs top h is small cuts = tt
+cuts_have (Fixed w v ∷ ps) fs top h is small cuts =
+    let inside : w ≤ top = omega arith in
+    let rest : top - w ≡ size ps = omega arith in
+    let below : top - w ≤ 32 = omega arith in
+    let all : w ≤ w = omega arith in
+    has_from h top w v w (fixed_bits ps (top - w)) inside small all cuts.0 (cuts_have ps fs (top - w) h rest below cuts.1)
+cuts_have (Field w ∷ ps) fs top h is small cuts =
+    let rest : top - w ≡ size ps = omega arith in
+    let below : top - w ≤ 32 = omega arith in
+    cuts_have ps fs.1 (top - w) h rest below cuts.1
+
+-- row k of a table
+abbrev pub row_at : List Row → ℕ → Row
+row_at [] k = record { pattern = []; means = Err Unknown }
+row_at (r ∷ rows) zero = r
+row_at (r ∷ rows) (suc k) = row_at rows k
+
+-- The row is the first of these that fits.
+abbrev pub Leads : Row → ℕ → List Row → Type 0
+Leads r h [] = ⊥
+Leads r h (x ∷ rows) = x ≡ r
+
+first_answers : (rows : List Row) (r : Row) (fs : Fields r.pattern) (h : ℕ) → Leads r h rows → Cuts r.pattern fs 32 h → decoded 32 rows h ≡ applied r.pattern r.means fs
+first_answers [] r fs h leads cuts = absurd leads
+first_answers (x ∷ rows) r fs h leads cuts =
+    subst (λ (y : Row). decoded 32 (y ∷ rows) h ≡ applied r.pattern r.means fs) (sym leads)
+    (if_true (fits r.pattern 32 h) _ _ (cuts_fit r.pattern fs 32 h cuts) ∙ cuts_fill r.pattern r.means fs 32 h cuts)
+
+-- A row answers for its fields where no row before it has its fixed bits.
+pub row_answers : (rows : List Row) (r : Row) (fs : Fields r.pattern) → size r.pattern ≡ 32 → AreSmall r.pattern fs
+    → Leads r (put r.pattern fs 0) (with_bits (fixed_bits r.pattern 32) rows) → decoded 32 rows (put r.pattern fs 0) ≡ applied r.pattern r.means fs
+row_answers rows r fs whole small leads =
+    let h = put r.pattern fs 0 in
+    let most : 32 ≤ 32 = omega arith in
+    let cuts = put_cuts r.pattern fs 0 32 (sym whole) small in
+    let has = cuts_have r.pattern fs 32 h (sym whole) most cuts in
+    known_bits h (fixed_bits r.pattern 32) has rows ∙ first_answers (with_bits (fixed_bits r.pattern 32) rows) r fs h leads cuts
+
+-- whose cuts are theirs
+pub put_has_cuts : (ps : List Bits) (fs : Fields ps) → size ps ≡ 32 → AreSmall ps fs → Cuts ps fs 32 (put ps fs 0)
+put_has_cuts ps fs whole small = put_cuts ps fs 0 32 (sym whole) small
+
+pub put_is_small : (ps : List Bits) (fs : Fields ps) → size ps ≡ 32 → AreSmall ps fs → put ps fs 0 < 2 ^ 32
+put_is_small ps fs whole small =
+    let none : put ps fs 0 / 2 ^ 32 ≡ 0 = ap (λ (k : ℕ). put ps fs 0 / 2 ^ k) (sym whole) ∙ put_high ps fs 0 small in
+    omega arith
