@@ -8,4 +8,5 @@ pub mod DataCovering
 pub mod FullMeanings
 pub mod FullCovering
 pub mod Putting
+pub mod Coded
 pub mod Examples

@@ -1,12 +1,15 @@
 -- Fields put together fit their pattern, and the row answers for them what it makes of them.
-use Rattle.std.proofs.Common.{◌≡◌, ℕ, ◌+◌, ◌-◌, ◌*◌, ◌/◌, ◌%◌, ◌^◌, ◌<◌, ◌≤◌, Bool, true, false, List, [], ◌∷◌, refl, ap, sym, ◌∙◌, subst, arith, zero, suc, nat_le, ◌==◌, ◌&&◌, if◌then◌else◌, Ok, Err}
+use Rattle.std.proofs.Common.{◌≡◌, ℕ, ◌+◌, ◌-◌, ◌*◌, ◌/◌, ◌%◌, ◌^◌, ◌<◌, ◌≤◌, Bool, true, false, List, [], ◌∷◌, refl, ap, sym, ◌∙◌, subst, arith, zero, suc, nat_le, nat_lt, ◌==◌, ◌&&◌, if◌then◌else◌, Ok, Err}
 use Rattle.std.proofs.lemmas.Nat.{shr-shr, shr_high, mod_low}
-use Rattle.std.proofs.lemmas.Bool.{and_parts, and_from, eq-eqb, leb-true}
+use Rattle.std.proofs.lemmas.Bool.{and_parts, and_from, eq-eqb, leb-true, ltb-true}
 use Rattle.thumb_instr.specs.declared.instructions.Instr.{Instr}
 use Rattle.thumb_instr.specs.declared.refusals.BadInstr.TheVariants.{Unknown}
 use Rattle.thumb_instr.specs.Patterns.{Bits, Fixed, Field, Made, Row, Answer, cut, fits, filled_in, decoded}
+use Rattle.thumb_instr.specs.declared.refusals.ItPlace.TheVariants.{Outside}
+use Rattle.thumb_instr.specs.FullRows.{full_rows}
 use Rattle.thumb_decode.specs.KnownBits.{HasBits, with_bits}
 use Rattle.thumb_decode.proofs.KnownBits.{bit_of_cut, known_bits}
+use Rattle.thumb_decode.proofs.Narrow.{cut_first}
 use Rattle.thumb_encode.proofs.Covering.{if_true, if_false}
 
 -- the fields of a pattern
@@ -18,8 +21,14 @@ Fields (Field w ∷ ps) = (_ : ℕ) × Fields ps
 -- each is below its bound
 abbrev pub AreSmall : (ps : List Bits) → Fields ps → Type 0
 AreSmall [] fs = Unit {0}
-AreSmall (Fixed w v ∷ ps) fs = (v < 2 ^ w) × AreSmall ps fs
+AreSmall (Fixed w v ∷ ps) fs = AreSmall ps fs
 AreSmall (Field w ∷ ps) fs = (fs.0 < 2 ^ w) × AreSmall ps fs.1
+
+-- and so are the fixed bits
+abbrev pub is_sound : List Bits → Bool
+is_sound [] = true
+is_sound (Fixed w v ∷ ps) = nat_lt v (2 ^ w) && is_sound ps
+is_sound (Field w ∷ ps) = is_sound ps
 
 abbrev pub size : List Bits → ℕ
 size [] = 0
@@ -48,24 +57,29 @@ one_more x w s high v less is =
     let order : s + w ≡ w + s = omega arith in
     ap (λ (k : ℕ). x / 2 ^ k) (sym order) ∙ sym (shr-shr x s w) ∙ ap (λ (k : ℕ). k / 2 ^ w) is ∙ shr_high high w v less
 
-put_high : (ps : List Bits) (fs : Fields ps) (high : ℕ) → AreSmall ps fs → put ps fs high / 2 ^ size ps ≡ high
-put_high [] fs high small = omega arith
-put_high (Fixed w v ∷ ps) fs high small = one_more (put ps fs (high * 2 ^ w + v)) w (size ps) high v small.0 (put_high ps fs (high * 2 ^ w + v) small.1)
-put_high (Field w ∷ ps) fs high small = one_more (put ps fs.1 (high * 2 ^ w + fs.0)) w (size ps) high fs.0 small.0 (put_high ps fs.1 (high * 2 ^ w + fs.0) small.1)
+put_high : (ps : List Bits) (fs : Fields ps) (high : ℕ) → is_sound ps ≡ true → AreSmall ps fs → put ps fs high / 2 ^ size ps ≡ high
+put_high [] fs high sound small = omega arith
+put_high (Fixed w v ∷ ps) fs high sound small =
+    let both = and_parts (nat_lt v (2 ^ w)) (is_sound ps) sound in
+    one_more (put ps fs (high * 2 ^ w + v)) w (size ps) high v (ltb-true v (2 ^ w) both.0) (put_high ps fs (high * 2 ^ w + v) both.1 small)
+put_high (Field w ∷ ps) fs high sound small = one_more (put ps fs.1 (high * 2 ^ w + fs.0)) w (size ps) high fs.0 small.0 (put_high ps fs.1 (high * 2 ^ w + fs.0) sound small.1)
 
 one_cut : (x top w s high v : ℕ) → top ≡ w + s → v < 2 ^ w → x / 2 ^ s ≡ high * 2 ^ w + v → cut x top w ≡ v
 one_cut x top w s high v is less top_is =
     let rest : top - w ≡ s = omega arith in
     ap (λ (k : ℕ). x / 2 ^ k % 2 ^ w) rest ∙ ap (λ (k : ℕ). k % 2 ^ w) top_is ∙ mod_low high w v less
 
-put_cuts : (ps : List Bits) (fs : Fields ps) (high top : ℕ) → top ≡ size ps → AreSmall ps fs → Cuts ps fs top (put ps fs high)
-put_cuts [] fs high top is small = tt
-put_cuts (Fixed w v ∷ ps) fs high top is small =
+put_cuts : (ps : List Bits) (fs : Fields ps) (high top : ℕ) → top ≡ size ps → is_sound ps ≡ true → AreSmall ps fs → Cuts ps fs top (put ps fs high)
+put_cuts [] fs high top is sound small = tt
+put_cuts (Fixed w v ∷ ps) fs high top is sound small =
     let rest : top - w ≡ size ps = omega arith in
-    (one_cut (put ps fs (high * 2 ^ w + v)) top w (size ps) high v is small.0 (put_high ps fs (high * 2 ^ w + v) small.1), put_cuts ps fs (high * 2 ^ w + v) (top - w) rest small.1)
-put_cuts (Field w ∷ ps) fs high top is small =
+    let both = and_parts (nat_lt v (2 ^ w)) (is_sound ps) sound in
+    (one_cut (put ps fs (high * 2 ^ w + v)) top w (size ps) high v is (ltb-true v (2 ^ w) both.0) (put_high ps fs (high * 2 ^ w + v) both.1 small),
+    put_cuts ps fs (high * 2 ^ w + v) (top - w) rest both.1 small)
+put_cuts (Field w ∷ ps) fs high top is sound small =
     let rest : top - w ≡ size ps = omega arith in
-    (one_cut (put ps fs.1 (high * 2 ^ w + fs.0)) top w (size ps) high fs.0 is small.0 (put_high ps fs.1 (high * 2 ^ w + fs.0) small.1), put_cuts ps fs.1 (high * 2 ^ w + fs.0) (top - w) rest small.1)
+    (one_cut (put ps fs.1 (high * 2 ^ w + fs.0)) top w (size ps) high fs.0 is small.0 (put_high ps fs.1 (high * 2 ^ w + fs.0) sound small.1),
+    put_cuts ps fs.1 (high * 2 ^ w + fs.0) (top - w) rest sound small.1)
 
 cuts_fit : (ps : List Bits) (fs : Fields ps) (top h : ℕ) → Cuts ps fs top h → fits ps top h ≡ true
 cuts_fit [] fs top h cuts = refl
@@ -114,38 +128,88 @@ cuts_have (Field w ∷ ps) fs top h is small cuts =
     let below : top - w ≤ 32 = omega arith in
     cuts_have ps fs.1 (top - w) h rest below cuts.1
 
+-- It begins as two halfwords do.
+abbrev pub begins_wide : List Bits → Bool
+begins_wide [] = false
+begins_wide (Fixed w v ∷ ps) = nat_le 5 w && nat_le w 32 && nat_le 29 (v / 2 ^ (w - 5))
+begins_wide (Field w ∷ ps) = false
+
+begin_is_wide : (ps : List Bits) (fs : Fields ps) (h : ℕ) → begins_wide ps ≡ true → Cuts ps fs 32 h → 29 ≤ h / 2 ^ 27
+begin_is_wide [] fs h wide cuts = absurd (cc)
+begin_is_wide (Fixed w v ∷ ps) fs h wide cuts =
+    let both = and_parts (nat_le 5 w && nat_le w 32) (nat_le 29 (v / 2 ^ (w - 5))) wide in
+    let inside = and_parts (nat_le 5 w) (nat_le w 32) both.0 in
+    let first : cut h 32 5 ≡ v / 2 ^ (w - 5) = sym (cut_first h 32 5 w (leb-true 5 w inside.0) (leb-true w 32 inside.1)) ∙ ap (λ (k : ℕ). k / 2 ^ (w - 5)) cuts.0 in
+    let least : 29 ≤ v / 2 ^ (w - 5) = leb-true 29 (v / 2 ^ (w - 5)) both.1 in
+    omega arith
+begin_is_wide (Field w ∷ ps) fs h wide cuts = absurd (cc)
+
+-- The pattern is one of two halfwords.
+pub record IsPattern (ps : List Bits) : Type 0 where
+  pub whole : size ps ≡ 32
+  pub sound : is_sound ps ≡ true
+  pub wide : begins_wide ps ≡ true
+
+-- what holds of the number that is made of fields
+pub record IsMade (ps : List Bits) (fs : Fields ps) : Type 0 where
+  pub cuts : Cuts ps fs 32 (put ps fs 0)
+  pub small : put ps fs 0 < 2 ^ 32
+  pub wide : 29 ≤ put ps fs 0 / 2 ^ 27
+  pub has : HasBits (put ps fs 0) (fixed_bits ps 32)
+
+pub made : (ps : List Bits) (fs : Fields ps) → IsPattern ps → AreSmall ps fs → IsMade ps fs
+made ps fs is small =
+    let cuts = put_cuts ps fs 0 32 (sym is.whole) is.sound small in
+    let none : put ps fs 0 / 2 ^ 32 ≡ 0 = ap (λ (k : ℕ). put ps fs 0 / 2 ^ k) (sym is.whole) ∙ put_high ps fs 0 is.sound small in
+    let most : 32 ≤ 32 = omega arith in
+    record {
+      cuts = cuts;
+      small = omega arith;
+      wide = begin_is_wide ps fs (put ps fs 0) is.wide cuts;
+      has = cuts_have ps fs 32 (put ps fs 0) (sym is.whole) most cuts;
+    }
+
+-- The instruction has a code of two halfwords, as one number.
+pub record IsCoded (i : Instr) : Type 0 where
+  pub number : ℕ
+  pub small : number < 2 ^ 32
+  pub wide : 29 ≤ number / 2 ^ 27
+  pub stands : decoded 32 (full_rows Outside) number ≡ Ok i
+
 -- row k of a table
 abbrev pub row_at : List Row → ℕ → Row
 row_at [] k = record { pattern = []; means = Err Unknown }
 row_at (r ∷ rows) zero = r
 row_at (r ∷ rows) (suc k) = row_at rows k
 
--- The row is the first of these that fits.
-abbrev pub Leads : Row → ℕ → List Row → Type 0
-Leads r h [] = ⊥
-Leads r h (x ∷ rows) = x ≡ r
+abbrev pub full_row : ℕ → Row
+full_row = row_at (full_rows Outside)
 
-first_answers : (rows : List Row) (r : Row) (fs : Fields r.pattern) (h : ℕ) → Leads r h rows → Cuts r.pattern fs 32 h → decoded 32 rows h ≡ applied r.pattern r.means fs
+-- The row is the first of these.
+abbrev pub Leads : Row → List Row → Type 0
+Leads r [] = ⊥
+Leads r (x ∷ rows) = x ≡ r
+
+pub first_answers : (rows : List Row) (r : Row) (fs : Fields r.pattern) (h : ℕ) → Leads r rows → Cuts r.pattern fs 32 h → decoded 32 rows h ≡ applied r.pattern r.means fs
 first_answers [] r fs h leads cuts = absurd leads
 first_answers (x ∷ rows) r fs h leads cuts =
     subst (λ (y : Row). decoded 32 (y ∷ rows) h ≡ applied r.pattern r.means fs) (sym leads)
     (if_true (fits r.pattern 32 h) _ _ (cuts_fit r.pattern fs 32 h cuts) ∙ cuts_fill r.pattern r.means fs 32 h cuts)
 
--- A row answers for its fields where no row before it has its fixed bits.
-pub row_answers : (rows : List Row) (r : Row) (fs : Fields r.pattern) → size r.pattern ≡ 32 → AreSmall r.pattern fs
-    → Leads r (put r.pattern fs 0) (with_bits (fixed_bits r.pattern 32) rows) → decoded 32 rows (put r.pattern fs 0) ≡ applied r.pattern r.means fs
-row_answers rows r fs whole small leads =
+-- the rows that may fit what has the fixed bits of row k
+abbrev pub rows_like : ℕ → List Row
+rows_like k = with_bits (fixed_bits (full_row k).pattern 32) (full_rows Outside)
+
+-- Row k answers for its fields, where no row before it may.
+pub coded : (k : ℕ) (fs : Fields (full_row k).pattern) (i : Instr) → IsPattern (full_row k).pattern → Leads (full_row k) (rows_like k) → AreSmall (full_row k).pattern fs
+    → applied (full_row k).pattern (full_row k).means fs ≡ Ok i → IsCoded i
+coded k fs i is leads small answer =
+    let r = full_row k in
     let h = put r.pattern fs 0 in
-    let most : 32 ≤ 32 = omega arith in
-    let cuts = put_cuts r.pattern fs 0 32 (sym whole) small in
-    let has = cuts_have r.pattern fs 32 h (sym whole) most cuts in
-    known_bits h (fixed_bits r.pattern 32) has rows ∙ first_answers (with_bits (fixed_bits r.pattern 32) rows) r fs h leads cuts
-
--- whose cuts are theirs
-pub put_has_cuts : (ps : List Bits) (fs : Fields ps) → size ps ≡ 32 → AreSmall ps fs → Cuts ps fs 32 (put ps fs 0)
-put_has_cuts ps fs whole small = put_cuts ps fs 0 32 (sym whole) small
-
-pub put_is_small : (ps : List Bits) (fs : Fields ps) → size ps ≡ 32 → AreSmall ps fs → put ps fs 0 < 2 ^ 32
-put_is_small ps fs whole small =
-    let none : put ps fs 0 / 2 ^ 32 ≡ 0 = ap (λ (k : ℕ). put ps fs 0 / 2 ^ k) (sym whole) ∙ put_high ps fs 0 small in
-    omega arith
+    let m = made r.pattern fs is small in
+    record {
+      number = h;
+      small = m.small;
+      wide = m.wide;
+      stands = known_bits h (fixed_bits r.pattern 32) m.has (full_rows Outside) ∙ first_answers (rows_like k) r fs h leads m.cuts ∙ answer;
+    }
