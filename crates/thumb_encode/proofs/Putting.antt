@@ -1,7 +1,7 @@
 -- Fields put together fit their pattern, and the row answers for them what it makes of them.
 use Rattle.std.proofs.Common.{◌≡◌, ℕ, ◌+◌, ◌-◌, ◌*◌, ◌/◌, ◌%◌, ◌^◌, ◌<◌, ◌≤◌, Bool, true, false, List, [], ◌∷◌, refl, ap, sym, ◌∙◌, subst, arith, zero, suc, nat_le, nat_lt, ◌==◌, ◌&&◌, if◌then◌else◌, Ok, Err}
 use Rattle.std.proofs.lemmas.Nat.{shr-shr, shr_high, mod_low}
-use Rattle.std.proofs.lemmas.Bool.{and_parts, and_from, eq-eqb, leb-true, ltb-true}
+use Rattle.std.proofs.lemmas.Bool.{and_parts, and_from, eq-eqb, eqb-true, leb-true, ltb-true}
 use Rattle.thumb_instr.specs.declared.instructions.Instr.{Instr}
 use Rattle.thumb_instr.specs.declared.refusals.BadInstr.TheVariants.{Unknown}
 use Rattle.thumb_instr.specs.Patterns.{Bits, Fixed, Field, Made, Row, Answer, cut, fits, filled_in, decoded}
@@ -145,10 +145,8 @@ begin_is_wide (Fixed w v ∷ ps) fs h wide cuts =
 begin_is_wide (Field w ∷ ps) fs h wide cuts = absurd (cc)
 
 -- The pattern is one of two halfwords.
-pub record IsPattern (ps : List Bits) : Type 0 where
-  pub whole : size ps ≡ 32
-  pub sound : is_sound ps ≡ true
-  pub wide : begins_wide ps ≡ true
+abbrev pub is_pattern : List Bits → Bool
+is_pattern ps = (size ps == 32) && is_sound ps && begins_wide ps
 
 -- what holds of the number that is made of fields
 pub record IsMade (ps : List Bits) (fs : Fields ps) : Type 0 where
@@ -157,16 +155,19 @@ pub record IsMade (ps : List Bits) (fs : Fields ps) : Type 0 where
   pub wide : 29 ≤ put ps fs 0 / 2 ^ 27
   pub has : HasBits (put ps fs 0) (fixed_bits ps 32)
 
-pub made : (ps : List Bits) (fs : Fields ps) → IsPattern ps → AreSmall ps fs → IsMade ps fs
+pub made : (ps : List Bits) (fs : Fields ps) → is_pattern ps ≡ true → AreSmall ps fs → IsMade ps fs
 made ps fs is small =
-    let cuts = put_cuts ps fs 0 32 (sym is.whole) is.sound small in
-    let none : put ps fs 0 / 2 ^ 32 ≡ 0 = ap (λ (k : ℕ). put ps fs 0 / 2 ^ k) (sym is.whole) ∙ put_high ps fs 0 is.sound small in
+    let both = and_parts ((size ps == 32) && is_sound ps) (begins_wide ps) is in
+    let parts = and_parts (size ps == 32) (is_sound ps) both.0 in
+    let whole : 32 ≡ size ps = sym (eqb-true (size ps) 32 parts.0) in
+    let cuts = put_cuts ps fs 0 32 whole parts.1 small in
+    let none : put ps fs 0 / 2 ^ 32 ≡ 0 = ap (λ (k : ℕ). put ps fs 0 / 2 ^ k) whole ∙ put_high ps fs 0 parts.1 small in
     let most : 32 ≤ 32 = omega arith in
     record {
       cuts = cuts;
       small = omega arith;
-      wide = begin_is_wide ps fs (put ps fs 0) is.wide cuts;
-      has = cuts_have ps fs 32 (put ps fs 0) (sym is.whole) most cuts;
+      wide = begin_is_wide ps fs (put ps fs 0) both.1 cuts;
+      has = cuts_have ps fs 32 (put ps fs 0) whole most cuts;
     }
 
 -- The instruction has a code of two halfwords, as one number.
@@ -190,26 +191,28 @@ abbrev pub Leads : Row → List Row → Type 0
 Leads r [] = ⊥
 Leads r (x ∷ rows) = x ≡ r
 
-pub first_answers : (rows : List Row) (r : Row) (fs : Fields r.pattern) (h : ℕ) → Leads r rows → Cuts r.pattern fs 32 h → decoded 32 rows h ≡ applied r.pattern r.means fs
+pub row_answers : (r : Row) (fs : Fields r.pattern) (h : ℕ) (other : Answer) → Cuts r.pattern fs 32 h → (if fits r.pattern 32 h then filled_in r.pattern r.means 32 h else other) ≡ applied r.pattern r.means fs
+row_answers r fs h other cuts = if_true (fits r.pattern 32 h) _ _ (cuts_fit r.pattern fs 32 h cuts) ∙ cuts_fill r.pattern r.means fs 32 h cuts
+
+first_answers : (rows : List Row) (r : Row) (fs : Fields r.pattern) (h : ℕ) → Leads r rows → Cuts r.pattern fs 32 h → decoded 32 rows h ≡ applied r.pattern r.means fs
 first_answers [] r fs h leads cuts = absurd leads
 first_answers (x ∷ rows) r fs h leads cuts =
-    subst (λ (y : Row). decoded 32 (y ∷ rows) h ≡ applied r.pattern r.means fs) (sym leads)
-    (if_true (fits r.pattern 32 h) _ _ (cuts_fit r.pattern fs 32 h cuts) ∙ cuts_fill r.pattern r.means fs 32 h cuts)
+    subst (λ (y : Row). decoded 32 (y ∷ rows) h ≡ applied r.pattern r.means fs) (sym leads) (row_answers r fs h _ cuts)
 
--- the rows that may fit what has the fixed bits of row k
-abbrev pub rows_like : ℕ → List Row
-rows_like k = with_bits (fixed_bits (full_row k).pattern 32) (full_rows Outside)
+-- the rows that may fit what has the fixed bits of a pattern
+abbrev pub rows_like : List Bits → List Row
+rows_like ps = with_bits (fixed_bits ps 32) (full_rows Outside)
 
--- Row k answers for its fields, where no row before it may.
-pub coded : (k : ℕ) (fs : Fields (full_row k).pattern) (i : Instr) → IsPattern (full_row k).pattern → Leads (full_row k) (rows_like k) → AreSmall (full_row k).pattern fs
+-- What the rows that may fit answer, the table answers.
+pub coded_behind : (ps : List Bits) (fs : Fields ps) (i : Instr) → is_pattern ps ≡ true → AreSmall ps fs → ((h : ℕ) → Cuts ps fs 32 h → decoded 32 (rows_like ps) h ≡ Ok i) → IsCoded i
+coded_behind ps fs i is small answer =
+    let h = put ps fs 0 in
+    let m = made ps fs is small in
+    record { number = h; small = m.small; wide = m.wide; stands = known_bits h (fixed_bits ps 32) m.has (full_rows Outside) ∙ answer h m.cuts }
+
+-- Row k answers for its fields, where no row before it may fit.
+pub coded : (k : ℕ) (fs : Fields (full_row k).pattern) (i : Instr) → is_pattern (full_row k).pattern ≡ true → Leads (full_row k) (rows_like (full_row k).pattern) → AreSmall (full_row k).pattern fs
     → applied (full_row k).pattern (full_row k).means fs ≡ Ok i → IsCoded i
 coded k fs i is leads small answer =
     let r = full_row k in
-    let h = put r.pattern fs 0 in
-    let m = made r.pattern fs is small in
-    record {
-      number = h;
-      small = m.small;
-      wide = m.wide;
-      stands = known_bits h (fixed_bits r.pattern 32) m.has (full_rows Outside) ∙ first_answers (rows_like k) r fs h leads m.cuts ∙ answer;
-    }
+    coded_behind r.pattern fs i is small (λ h cuts. first_answers (rows_like r.pattern) r fs h leads cuts ∙ answer)
