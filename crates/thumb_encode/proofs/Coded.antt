@@ -1,19 +1,22 @@
 -- Instructions that the test takes have a code of two halfwords: registers.
 use Rattle.std.proofs.Common.{◌≡◌, ℕ, ◌+◌, ◌-◌, ◌*◌, ◌/◌, ◌%◌, ◌^◌, ◌<◌, ◌≤◌, Bool, true, false, List, [], ◌∷◌, refl, ap, sym, ◌∙◌, subst, arith, Ok, Err, ◌==◌, ◌&&◌, ◌||◌, not, if◌then◌else◌}
 use Rattle.std.specs.List.{list_any}
-use Rattle.std.proofs.lemmas.Bool.{and_parts}
+use Rattle.std.proofs.lemmas.Bool.{and_parts, eqb-true, eq-eqb}
 use Rattle.std.proofs.lemmas.Bool.Decides.{nat_tests}
 use Rattle.mark_word.specs.declared.numbers.Shift.{Shift}
 use Rattle.mark_word.specs.declared.numbers.Shift.TheVariants.{Lsl, Lsr, Asr, Ror, Rrx}
+use Rattle.thumb_instr.specs.declared.operations.UnaryOp.{UnaryOp}
+use Rattle.thumb_instr.specs.declared.operations.UnaryOp.TheVariants.{Sxth, Sxtb, Uxth, Uxtb, Rev, Rev16, Revsh, Rbit, Clz}
 use Rattle.thumb_instr.specs.declared.operations.LongMulOp.{LongMulOp}
 use Rattle.thumb_instr.specs.declared.operations.LongMulOp.TheVariants.{Smull, Umull, Smlal, Umlal}
 use Rattle.thumb_instr.specs.declared.instructions.Instr.{Instr}
 use Rattle.thumb_instr.specs.declared.instructions.Instr.TheVariants as instr
 use Rattle.thumb_instr.specs.declared.refusals.BadInstr.{BadInstr}
-use Rattle.thumb_instr.specs.Fields.{ShiftByFields, MulFields, MulAccFields, DivFields, LongMulFields}
-use Rattle.thumb_instr.specs.Operands.{goes_by_register}
+use Rattle.thumb_instr.specs.declared.refusals.BadInstr.TheVariants.{Unpredictable}
+use Rattle.thumb_instr.specs.Fields.{ShiftByFields, UnaryFields, MulFields, MulAccFields, DivFields, LongMulFields}
+use Rattle.thumb_instr.specs.Operands.{goes_by_register, is_turn, is_extension}
 use Rattle.thumb_instr.specs.Patterns.{Answer, refused}
-use Rattle.thumb_instr.specs.Meanings.{when}
+use Rattle.thumb_instr.specs.Meanings.{when, unary}
 use Rattle.thumb_instr.specs.FullRows.{full_rows, on_plain, shift_of, product}
 use Rattle.thumb_instr.specs.Formed.{IsFormed}
 use Rattle.thumb_encode.specs.HalfCodes.{shift_number}
@@ -45,6 +48,10 @@ pub not_true : (b : Bool) → not b ≡ true → b ≡ false
 not_true true e = (cc)
 not_true false e = refl
 
+pub not_false : (b : Bool) → b ≡ true → not b ≡ false
+not_false true e = refl
+not_false false e = (cc)
+
 pub taken : (b : Bool) (i : Instr) → b ≡ true → when b i ≡ Ok i
 taken true i e = refl
 taken false i e = (cc)
@@ -72,7 +79,7 @@ shift_again Asr e = refl
 shift_again Ror e = refl
 shift_again Rrx e = (cc)
 
-two_bits : (kind : Shift) → shift_number kind < 2 ^ 2
+pub two_bits : (kind : Shift) → shift_number kind < 2 ^ 2
 two_bits Lsl = omega arith
 two_bits Lsr = omega arith
 two_bits Asr = omega arith
@@ -141,3 +148,78 @@ turned turn e = grind (arith, nat_tests)
 turn_is_small : (turn : ℕ) → ((turn == 0) || (true && ((turn == 8) || (turn == 16) || (turn == 24)))) ≡ true → turn / 8 < 2 ^ 2
 turn_is_small turn e = grind (arith, nat_tests)
 
+left_of : (a x y : Bool) → x ≡ false → (a || (x && y)) ≡ true → a ≡ true
+left_of true x y e f = refl
+left_of false true y e f = (cc)
+left_of false false y e f = f
+
+itself : (m : ℕ) → not (m == m) ≡ false
+itself m = rw (eq-eqb m m refl) refl
+
+twice_lacks : (d m : ℕ) → lacks_sp (d ∷ m ∷ []) ≡ true → lacks_sp (d ∷ m ∷ m ∷ []) ≡ true
+twice_lacks d m e = grind (arith, nat_tests)
+
+-- The extended register stands in the low bits, its turn above it.
+sxth_of : (d m turn : ℕ) → d ≤ 14 → m ≤ 14 → is_turn Sxth turn ≡ true → lacks_sp (d ∷ m ∷ []) ≡ true → IsCoded (instr.Unary (record { op = Sxth; d = d; m = m; turn = turn }))
+unfolding full_rows
+sxth_of d m turn ld lm f e = coded 29 (d, (turn / 8, (m, tt))) _ refl refl (four_bits d ld, (turn_is_small turn f, (four_bits m lm, tt)))
+    (plain_takes (d ∷ m ∷ []) _ _ (ld, (lm, tt)) e (rw (turned turn f) (taken (is_turn Sxth turn) (instr.Unary (record { op = Sxth; d = d; m = m; turn = turn })) f)))
+
+uxth_of : (d m turn : ℕ) → d ≤ 14 → m ≤ 14 → is_turn Uxth turn ≡ true → lacks_sp (d ∷ m ∷ []) ≡ true → IsCoded (instr.Unary (record { op = Uxth; d = d; m = m; turn = turn }))
+unfolding full_rows
+uxth_of d m turn ld lm f e = coded 30 (d, (turn / 8, (m, tt))) _ refl refl (four_bits d ld, (turn_is_small turn f, (four_bits m lm, tt)))
+    (plain_takes (d ∷ m ∷ []) _ _ (ld, (lm, tt)) e (rw (turned turn f) (taken (is_turn Uxth turn) (instr.Unary (record { op = Uxth; d = d; m = m; turn = turn })) f)))
+
+sxtb_of : (d m turn : ℕ) → d ≤ 14 → m ≤ 14 → is_turn Sxtb turn ≡ true → lacks_sp (d ∷ m ∷ []) ≡ true → IsCoded (instr.Unary (record { op = Sxtb; d = d; m = m; turn = turn }))
+unfolding full_rows
+sxtb_of d m turn ld lm f e = coded 31 (d, (turn / 8, (m, tt))) _ refl refl (four_bits d ld, (turn_is_small turn f, (four_bits m lm, tt)))
+    (plain_takes (d ∷ m ∷ []) _ _ (ld, (lm, tt)) e (rw (turned turn f) (taken (is_turn Sxtb turn) (instr.Unary (record { op = Sxtb; d = d; m = m; turn = turn })) f)))
+
+uxtb_of : (d m turn : ℕ) → d ≤ 14 → m ≤ 14 → is_turn Uxtb turn ≡ true → lacks_sp (d ∷ m ∷ []) ≡ true → IsCoded (instr.Unary (record { op = Uxtb; d = d; m = m; turn = turn }))
+unfolding full_rows
+uxtb_of d m turn ld lm f e = coded 32 (d, (turn / 8, (m, tt))) _ refl refl (four_bits d ld, (turn_is_small turn f, (four_bits m lm, tt)))
+    (plain_takes (d ∷ m ∷ []) _ _ (ld, (lm, tt)) e (rw (turned turn f) (taken (is_turn Uxtb turn) (instr.Unary (record { op = Uxtb; d = d; m = m; turn = turn })) f)))
+
+not_turned : (op : UnaryOp) (turn : ℕ) → is_extension op ≡ false → is_turn op turn ≡ true → 0 ≡ turn
+not_turned op turn e f = sym (eqb-true turn 0 (left_of (turn == 0) (is_extension op) ((turn == 8) || (turn == 16) || (turn == 24)) e f))
+
+order_takes : (op : UnaryOp) (d m turn : ℕ) → d ≤ 14 → m ≤ 14 → is_extension op ≡ false → is_turn op turn ≡ true → lacks_sp (d ∷ m ∷ []) ≡ true
+    → on_plain (d ∷ m ∷ m ∷ []) (refused ((not (m == m), Unpredictable) ∷ []) (unary op d m 0)) ≡ Ok (instr.Unary (record { op = op; d = d; m = m; turn = turn }))
+order_takes op d m turn ld lm x f e =
+    plain_takes (d ∷ m ∷ m ∷ []) _ _ (ld, (lm, (lm, tt))) (twice_lacks d m e)
+    (passed (not (m == m)) _ _ _ (itself m) (subst (λ (t : ℕ). unary op d m 0 ≡ Ok (instr.Unary (record { op = op; d = d; m = m; turn = t }))) (not_turned op turn x f) (taken (is_turn op 0) _ refl)))
+
+rev_of : (d m turn : ℕ) → d ≤ 14 → m ≤ 14 → is_turn Rev turn ≡ true → lacks_sp (d ∷ m ∷ []) ≡ true → IsCoded (instr.Unary (record { op = Rev; d = d; m = m; turn = turn }))
+unfolding full_rows
+rev_of d m turn ld lm f e = coded 33 (m, (d, (m, tt))) _ refl refl (four_bits m lm, (four_bits d ld, (four_bits m lm, tt))) (order_takes Rev d m turn ld lm refl f e)
+
+rev16_of : (d m turn : ℕ) → d ≤ 14 → m ≤ 14 → is_turn Rev16 turn ≡ true → lacks_sp (d ∷ m ∷ []) ≡ true → IsCoded (instr.Unary (record { op = Rev16; d = d; m = m; turn = turn }))
+unfolding full_rows
+rev16_of d m turn ld lm f e = coded 34 (m, (d, (m, tt))) _ refl refl (four_bits m lm, (four_bits d ld, (four_bits m lm, tt))) (order_takes Rev16 d m turn ld lm refl f e)
+
+rbit_of : (d m turn : ℕ) → d ≤ 14 → m ≤ 14 → is_turn Rbit turn ≡ true → lacks_sp (d ∷ m ∷ []) ≡ true → IsCoded (instr.Unary (record { op = Rbit; d = d; m = m; turn = turn }))
+unfolding full_rows
+rbit_of d m turn ld lm f e = coded 35 (m, (d, (m, tt))) _ refl refl (four_bits m lm, (four_bits d ld, (four_bits m lm, tt))) (order_takes Rbit d m turn ld lm refl f e)
+
+revsh_of : (d m turn : ℕ) → d ≤ 14 → m ≤ 14 → is_turn Revsh turn ≡ true → lacks_sp (d ∷ m ∷ []) ≡ true → IsCoded (instr.Unary (record { op = Revsh; d = d; m = m; turn = turn }))
+unfolding full_rows
+revsh_of d m turn ld lm f e = coded 36 (m, (d, (m, tt))) _ refl refl (four_bits m lm, (four_bits d ld, (four_bits m lm, tt))) (order_takes Revsh d m turn ld lm refl f e)
+
+clz_of : (d m turn : ℕ) → d ≤ 14 → m ≤ 14 → is_turn Clz turn ≡ true → lacks_sp (d ∷ m ∷ []) ≡ true → IsCoded (instr.Unary (record { op = Clz; d = d; m = m; turn = turn }))
+unfolding full_rows
+clz_of d m turn ld lm f e = coded 37 (m, (d, (m, tt))) _ refl refl (four_bits m lm, (four_bits d ld, (four_bits m lm, tt))) (order_takes Clz d m turn ld lm refl f e)
+
+unary_of : (op : UnaryOp) (d m turn : ℕ) → d ≤ 14 → m ≤ 14 → is_turn op turn ≡ true → lacks_sp (d ∷ m ∷ []) ≡ true → IsCoded (instr.Unary (record { op = op; d = d; m = m; turn = turn }))
+unary_of Sxth d m turn ld lm f e = sxth_of d m turn ld lm f e
+unary_of Uxth d m turn ld lm f e = uxth_of d m turn ld lm f e
+unary_of Sxtb d m turn ld lm f e = sxtb_of d m turn ld lm f e
+unary_of Uxtb d m turn ld lm f e = uxtb_of d m turn ld lm f e
+unary_of Rev d m turn ld lm f e = rev_of d m turn ld lm f e
+unary_of Rev16 d m turn ld lm f e = rev16_of d m turn ld lm f e
+unary_of Rbit d m turn ld lm f e = rbit_of d m turn ld lm f e
+unary_of Revsh d m turn ld lm f e = revsh_of d m turn ld lm f e
+unary_of Clz d m turn ld lm f e = clz_of d m turn ld lm f e
+
+pub unary_coded : (i : UnaryFields) → IsFormed (instr.Unary i) → has_full (instr.Unary i) ≡ true → IsCoded (instr.Unary i)
+unfolding has_full
+unary_coded i f e = unary_of i.op i.d i.m i.turn f.registers.0 f.registers.1 f.fields e

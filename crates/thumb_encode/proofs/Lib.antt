@@ -9,4 +9,5 @@ pub mod FullMeanings
 pub mod FullCovering
 pub mod Putting
 pub mod Coded
+pub mod CodedData
 pub mod Examples
