@@ -10,4 +10,5 @@ pub mod FullCovering
 pub mod Putting
 pub mod Coded
 pub mod CodedData
+pub mod CodedNumbers
 pub mod Examples
