@@ -11,4 +11,7 @@ pub mod Putting
 pub mod Coded
 pub mod CodedData
 pub mod CodedNumbers
+pub mod CodedBranches
+pub mod CodedAccesses
+pub mod CodedLists
 pub mod Examples

@@ -194,10 +194,28 @@ Leads r (x ∷ rows) = x ≡ r
 pub row_answers : (r : Row) (fs : Fields r.pattern) (h : ℕ) (other : Answer) → Cuts r.pattern fs 32 h → (if fits r.pattern 32 h then filled_in r.pattern r.means 32 h else other) ≡ applied r.pattern r.means fs
 row_answers r fs h other cuts = if_true (fits r.pattern 32 h) _ _ (cuts_fit r.pattern fs 32 h cuts) ∙ cuts_fill r.pattern r.means fs 32 h cuts
 
-first_answers : (rows : List Row) (r : Row) (fs : Fields r.pattern) (h : ℕ) → Leads r rows → Cuts r.pattern fs 32 h → decoded 32 rows h ≡ applied r.pattern r.means fs
+pub first_answers : (rows : List Row) (r : Row) (fs : Fields r.pattern) (h : ℕ) → Leads r rows → Cuts r.pattern fs 32 h → decoded 32 rows h ≡ applied r.pattern r.means fs
 first_answers [] r fs h leads cuts = absurd leads
 first_answers (x ∷ rows) r fs h leads cuts =
     subst (λ (y : Row). decoded 32 (y ∷ rows) h ≡ applied r.pattern r.means fs) (sym leads) (row_answers r fs h _ cuts)
+
+-- Behind these rows the row is the next.
+abbrev pub Follows : List Row → Row → List Row → Type 0
+Follows [] r rows = Leads r rows
+Follows (x ∷ xs) r [] = ⊥
+Follows (x ∷ xs) r (y ∷ rows) = (y ≡ x) × Follows xs r rows
+
+-- None of them fits.
+abbrev pub AllMiss : List Row → ℕ → Type 0
+AllMiss [] h = Unit {0}
+AllMiss (x ∷ xs) h = (fits x.pattern 32 h ≡ false) × AllMiss xs h
+
+pub later_answers : (before rows : List Row) (r : Row) (fs : Fields r.pattern) (h : ℕ) → Follows before r rows → AllMiss before h → Cuts r.pattern fs 32 h → decoded 32 rows h ≡ applied r.pattern r.means fs
+later_answers [] rows r fs h follows miss cuts = first_answers rows r fs h follows cuts
+later_answers (x ∷ xs) [] r fs h follows miss cuts = absurd follows
+later_answers (x ∷ xs) (y ∷ rows) r fs h follows miss cuts =
+    subst (λ (z : Row). decoded 32 (z ∷ rows) h ≡ applied r.pattern r.means fs) (sym follows.0)
+    (if_false (fits x.pattern 32 h) (filled_in x.pattern x.means 32 h) (decoded 32 rows h) miss.0 ∙ later_answers xs rows r fs h follows.1 miss.1 cuts)
 
 -- the rows that may fit what has the fixed bits of a pattern
 abbrev pub rows_like : List Bits → List Row
@@ -209,6 +227,13 @@ coded_behind ps fs i is small answer =
     let h = put ps fs 0 in
     let m = made ps fs is small in
     record { number = h; small = m.small; wide = m.wide; stands = known_bits h (fixed_bits ps 32) m.has (full_rows Outside) ∙ answer h m.cuts }
+
+-- Row k answers for its fields, where those before it that may fit do not.
+pub coded_after : (before : List Row) (k : ℕ) (fs : Fields (full_row k).pattern) (i : Instr) → is_pattern (full_row k).pattern ≡ true → Follows before (full_row k) (rows_like (full_row k).pattern) → AreSmall (full_row k).pattern fs
+    → ((h : ℕ) → Cuts (full_row k).pattern fs 32 h → AllMiss before h) → applied (full_row k).pattern (full_row k).means fs ≡ Ok i → IsCoded i
+coded_after before k fs i is follows small miss answer =
+    let r = full_row k in
+    coded_behind r.pattern fs i is small (λ h cuts. later_answers before (rows_like r.pattern) r fs h follows (miss h cuts) cuts ∙ answer)
 
 -- Row k answers for its fields, where no row before it may fit.
 pub coded : (k : ℕ) (fs : Fields (full_row k).pattern) (i : Instr) → is_pattern (full_row k).pattern ≡ true → Leads (full_row k) (rows_like (full_row k).pattern) → AreSmall (full_row k).pattern fs
