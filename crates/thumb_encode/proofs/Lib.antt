@@ -14,4 +14,6 @@ pub mod CodedNumbers
 pub mod CodedBranches
 pub mod CodedAccesses
 pub mod CodedLists
+pub mod FullTold
+pub mod TellsCodes
 pub mod Examples
