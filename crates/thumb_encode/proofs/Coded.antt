@@ -1,5 +1,5 @@
 -- Instructions that the test takes have a code of two halfwords: registers.
-use Rattle.std.proofs.Common.{◌≡◌, ℕ, ◌+◌, ◌-◌, ◌*◌, ◌/◌, ◌%◌, ◌^◌, ◌<◌, ◌≤◌, Bool, true, false, List, [], ◌∷◌, refl, ap, sym, ◌∙◌, subst, arith, Ok, Err, ◌==◌, ◌&&◌, ◌||◌, not, if◌then◌else◌}
+use Rattle.std.proofs.Common.{◌≡◌, ℕ, ◌*◌, ◌/◌, ◌^◌, ◌<◌, ◌≤◌, Bool, true, false, List, [], ◌∷◌, refl, sym, ◌∙◌, subst, arith, Ok, Err, ◌==◌, ◌&&◌, ◌||◌, not, if◌then◌else◌}
 use Rattle.std.specs.List.{list_any}
 use Rattle.std.proofs.lemmas.Bool.{and_parts, eqb-true, eq-eqb}
 use Rattle.std.proofs.lemmas.Bool.Decides.{nat_tests}
@@ -18,11 +18,10 @@ use Rattle.thumb_instr.specs.Operands.{goes_by_register, is_turn, is_extension}
 use Rattle.thumb_instr.specs.Patterns.{Answer, refused}
 use Rattle.thumb_instr.specs.Meanings.{when, unary}
 use Rattle.thumb_instr.specs.FullRows.{full_rows, on_plain, shift_of, product}
-use Rattle.thumb_instr.specs.Formed.{IsFormed}
 use Rattle.thumb_encode.specs.HalfCodes.{shift_number}
 use Rattle.thumb_encode.specs.FullCodes.{bit}
 use Rattle.thumb_encode.specs.HasFull.{has_full, lacks_sp}
-use Rattle.thumb_encode.proofs.Putting.{IsCoded, coded}
+use Rattle.thumb_encode.proofs.Putting.{IsGiven, IsCoded, coded}
 use Rattle.thumb_encode.proofs.Covering.{if_false}
 
 -- a register has four bits, and is not pc
@@ -86,7 +85,7 @@ two_bits Asr = omega arith
 two_bits Ror = omega arith
 two_bits Rrx = omega arith
 
-pub shift_by_coded : (i : ShiftByFields) → IsFormed (instr.ShiftBy i) → has_full (instr.ShiftBy i) ≡ true → IsCoded (instr.ShiftBy i)
+pub shift_by_coded : (i : ShiftByFields) → IsGiven (instr.ShiftBy i) → has_full (instr.ShiftBy i) ≡ true → IsCoded (instr.ShiftBy i)
 unfolding full_rows has_full
 shift_by_coded i formed e =
     let r = formed.registers in
@@ -123,21 +122,21 @@ unfolding full_rows
 div_of true d n m ld ln lm e = coded 44 (n, (d, (m, tt))) _ refl refl (four_bits n ln, (four_bits d ld, (four_bits m lm, tt))) (plain_takes (d ∷ n ∷ m ∷ []) _ _ (ld, (ln, (lm, tt))) e refl)
 div_of false d n m ld ln lm e = coded 45 (n, (d, (m, tt))) _ refl refl (four_bits n ln, (four_bits d ld, (four_bits m lm, tt))) (plain_takes (d ∷ n ∷ m ∷ []) _ _ (ld, (ln, (lm, tt))) e refl)
 
-pub mul_coded : (i : MulFields) → IsFormed (instr.Mul i) → has_full (instr.Mul i) ≡ true → IsCoded (instr.Mul i)
+pub mul_coded : (i : MulFields) → IsGiven (instr.Mul i) → has_full (instr.Mul i) ≡ true → IsCoded (instr.Mul i)
 unfolding has_full
 mul_coded i f e =
     let both = and_parts (not i.s) (lacks_sp (i.d ∷ i.n ∷ i.m ∷ [])) e in
     mul_of i.s i.d i.n i.m (not_true i.s both.0) f.registers.0 f.registers.1 f.registers.2 both.1
 
-pub mul_acc_coded : (i : MulAccFields) → IsFormed (instr.MulAcc i) → has_full (instr.MulAcc i) ≡ true → IsCoded (instr.MulAcc i)
+pub mul_acc_coded : (i : MulAccFields) → IsGiven (instr.MulAcc i) → has_full (instr.MulAcc i) ≡ true → IsCoded (instr.MulAcc i)
 unfolding has_full
 mul_acc_coded i f e = mul_acc_of i.minus i.d i.n i.m i.a f.registers.0 f.registers.1 f.registers.2 f.registers.3 e
 
-pub long_mul_coded : (i : LongMulFields) → IsFormed (instr.LongMul i) → has_full (instr.LongMul i) ≡ true → IsCoded (instr.LongMul i)
+pub long_mul_coded : (i : LongMulFields) → IsGiven (instr.LongMul i) → has_full (instr.LongMul i) ≡ true → IsCoded (instr.LongMul i)
 unfolding has_full
 long_mul_coded i f e = long_mul_of i.op i.lo i.hi i.n i.m f.registers.0 f.registers.1 f.registers.2 f.registers.3 f.fields e
 
-pub div_coded : (i : DivFields) → IsFormed (instr.Div i) → has_full (instr.Div i) ≡ true → IsCoded (instr.Div i)
+pub div_coded : (i : DivFields) → IsGiven (instr.Div i) → has_full (instr.Div i) ≡ true → IsCoded (instr.Div i)
 unfolding has_full
 div_coded i f e = div_of i.signed i.d i.n i.m f.registers.0 f.registers.1 f.registers.2 e
 
@@ -220,6 +219,6 @@ unary_of Rbit d m turn ld lm f e = rbit_of d m turn ld lm f e
 unary_of Revsh d m turn ld lm f e = revsh_of d m turn ld lm f e
 unary_of Clz d m turn ld lm f e = clz_of d m turn ld lm f e
 
-pub unary_coded : (i : UnaryFields) → IsFormed (instr.Unary i) → has_full (instr.Unary i) ≡ true → IsCoded (instr.Unary i)
+pub unary_coded : (i : UnaryFields) → IsGiven (instr.Unary i) → has_full (instr.Unary i) ≡ true → IsCoded (instr.Unary i)
 unfolding has_full
 unary_coded i f e = unary_of i.op i.d i.m i.turn f.registers.0 f.registers.1 f.fields e

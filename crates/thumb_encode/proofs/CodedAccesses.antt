@@ -1,5 +1,5 @@
 -- Loads and stores that the test takes have a code of two halfwords.
-use Rattle.std.proofs.Common.{◌≡◌, ℕ, ◌+◌, ◌-◌, ◌*◌, ◌/◌, ◌%◌, ◌^◌, ◌<◌, ◌≤◌, ◌≢◌, Bool, true, false, List, [], ◌∷◌, refl, ap, sym, ◌∙◌, subst, arith, Option, Some, None, Ok, Err, ◌==◌, ◌&&◌, ◌||◌, not, nat_lt, nat_le, if◌then◌else◌, slice_get}
+use Rattle.std.proofs.Common.{◌≡◌, ℕ, ◌+◌, ◌*◌, ◌/◌, ◌%◌, ◌^◌, ◌<◌, ◌≤◌, ◌≢◌, Bool, true, false, [], ◌∷◌, refl, ap, ◌∙◌, arith, Option, Some, Ok, ◌==◌, ◌&&◌, ◌||◌, not, nat_lt, nat_le, slice_get}
 use Rattle.std.proofs.lemmas.Bool.{and_parts, eqb-true, ltb-true, leb-true}
 use Rattle.std.proofs.lemmas.Bool.Decides.{nat_tests}
 use Rattle.thumb_instr.specs.declared.operations.AccessOp.{AccessOp}
@@ -10,16 +10,15 @@ use Rattle.thumb_instr.specs.declared.places.PairIndex.{PairIndex}
 use Rattle.thumb_instr.specs.declared.places.PairIndex.TheVariants as index
 use Rattle.thumb_instr.specs.declared.instructions.Instr.{Instr}
 use Rattle.thumb_instr.specs.declared.instructions.Instr.TheVariants as instr
-use Rattle.thumb_instr.specs.declared.refusals.ItPlace.TheVariants.{Outside}
 use Rattle.thumb_instr.specs.Fields.{AccessFields, PairFields}
 use Rattle.thumb_instr.specs.Operands.{is_place, is_pair_offset}
-use Rattle.thumb_instr.specs.Patterns.{Answer, cut, fits, decoded}
+use Rattle.thumb_instr.specs.Patterns.{Answer, cut, fits}
 use Rattle.thumb_instr.specs.FullRows.{full_rows, accesses, on_access, access_row, by_byte, by_register, two_words, dual}
-use Rattle.thumb_instr.specs.Formed.{IsFormed, PlaceNamesRegisters}
+use Rattle.thumb_instr.specs.Formed.{PlaceNamesRegisters}
 use Rattle.thumb_encode.specs.FullCodes.{bit, access_number}
 use Rattle.thumb_encode.specs.HasFull.{has_full, lacks_sp, place_has_full, is_changed}
-use Rattle.thumb_encode.proofs.Covering.{if_true, if_false, chosen}
-use Rattle.thumb_encode.proofs.Putting.{IsCoded, coded, coded_after, full_row}
+use Rattle.thumb_encode.proofs.Covering.{chosen}
+use Rattle.thumb_encode.proofs.Putting.{IsGiven, IsCoded, coded, coded_after, full_row}
 use Rattle.thumb_encode.proofs.Coded.{four_bits, no_pc, one_bit, bit_again, neither, not_true, taken, passed}
 
 -- the rows of LDR (literal) and of POP of pc alone, which stand before the others
@@ -138,7 +137,7 @@ access_of op t n (Post up imm) lt ln lp is plain e =
     byte_of 0 (bit up) 1 op t n imm _ (omega arith) (one_bit up) (omega arith) lt ln (omega arith) (post_takes op t n up imm lt ln plain (not_true (n == t) both.1))
 access_of op t n (Index m shift) lt ln lp is plain e = index_of op t n m shift lt ln lp plain (not_true (m == 13) e) is
 
-pub access_coded : (i : AccessFields) → IsFormed (instr.Access i) → has_full (instr.Access i) ≡ true → IsCoded (instr.Access i)
+pub access_coded : (i : AccessFields) → IsGiven (instr.Access i) → has_full (instr.Access i) ≡ true → IsCoded (instr.Access i)
 unfolding has_full
 access_coded i f e =
     let both = and_parts (lacks_sp (i.t ∷ [])) (place_has_full i.t i.n i.place) e in
@@ -184,7 +183,7 @@ before_is_small index.Offset = omega arith
 before_is_small index.Pre = omega arith
 before_is_small index.Post = omega arith
 
-dual_takes : (i : PairFields) → IsFormed (instr.Pair i) → has_full (instr.Pair i) ≡ true → dual (comes_before i.index) (bit i.up) (bit (is_changed i.index)) (bit i.load) i.n i.t i.u (i.imm / 4) ≡ Ok (instr.Pair i)
+dual_takes : (i : PairFields) → IsGiven (instr.Pair i) → has_full (instr.Pair i) ≡ true → dual (comes_before i.index) (bit i.up) (bit (is_changed i.index)) (bit i.load) i.n i.t i.u (i.imm / 4) ≡ Ok (instr.Pair i)
 unfolding has_full
 dual_takes i f e =
     let both = and_parts (lacks_sp (i.t ∷ i.u ∷ []) && not (i.load && (i.t == i.u))) (not (is_changed i.index && ((i.n == i.t) || (i.n == i.u)))) e in
@@ -193,7 +192,7 @@ dual_takes i f e =
     ∙ rw (bit_again i.load, bit_again i.up, quarter_again i.imm f.fields)
     (pair_takes i.load i.t i.u i.n i.up i.imm i.index f.registers.0 f.registers.1 f.registers.2 f.fields parts.0 (not_true _ parts.1) (not_true _ both.1))
 
-pub pair_coded : (i : PairFields) → IsFormed (instr.Pair i) → has_full (instr.Pair i) ≡ true → IsCoded (instr.Pair i)
+pub pair_coded : (i : PairFields) → IsGiven (instr.Pair i) → has_full (instr.Pair i) ≡ true → IsCoded (instr.Pair i)
 unfolding full_rows
 pair_coded i f e =
     let r = f.registers in

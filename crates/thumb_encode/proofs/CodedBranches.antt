@@ -1,10 +1,9 @@
 -- Branches whose offset fits have a code of two halfwords.
-use Rattle.std.proofs.Common.{◌≡◌, ℕ, ℤ, pos, negsuc, zero, suc, ◌+◌, ◌-◌, ◌*◌, ◌/◌, ◌%◌, ◌^◌, ◌<◌, ◌≤◌, Bool, true, false, List, [], ◌∷◌, refl, ap, sym, ◌∙◌, subst, arith, Ok, Err, ◌==◌, nat_lt, if◌then◌else◌}
+use Rattle.std.proofs.Common.{◌≡◌, ℕ, ℤ, pos, negsuc, zero, suc, ◌+◌, ◌-◌, ◌*◌, ◌/◌, ◌%◌, ◌^◌, ◌<◌, ◌≤◌, true, false, List, [], ◌∷◌, refl, ap, ◌∙◌, arith, Ok, ◌==◌, nat_lt, if◌then◌else◌}
 use Rattle.std.proofs.lemmas.Bool.{eqb-true, ltb-true}
 use Rattle.std.proofs.lemmas.Bool.Decides.{nat_tests}
 use Rattle.thumb_instr.specs.declared.conditions.Cond.{Cond}
 use Rattle.thumb_instr.specs.declared.conditions.Cond.TheVariants.{Al}
-use Rattle.thumb_instr.specs.declared.instructions.Instr.{Instr}
 use Rattle.thumb_instr.specs.declared.instructions.Instr.TheVariants as instr
 use Rattle.thumb_instr.specs.declared.refusals.ItPlace.TheVariants.{Outside}
 use Rattle.thumb_instr.specs.Fields.{BranchFields, CallFields}
@@ -12,13 +11,12 @@ use Rattle.thumb_instr.specs.Operands.{is_even}
 use Rattle.thumb_instr.specs.Patterns.{Bits, Fixed, Field}
 use Rattle.thumb_instr.specs.Meanings.{signed}
 use Rattle.thumb_instr.specs.FullRows.{full_rows, on_condition_branch, long_offset, one_if}
-use Rattle.thumb_instr.specs.Formed.{IsFormed}
 use Rattle.thumb_encode.specs.HalfCodes.{condition_number}
 use Rattle.thumb_encode.specs.FullCodes.{bit}
 use Rattle.thumb_encode.specs.HasFull.{has_full, is_signed, is_always}
 use Rattle.thumb_encode.proofs.Covering.{if_true, if_false}
-use Rattle.thumb_encode.proofs.Putting.{IsCoded, Leads, coded, coded_behind, full_row, first_answers, rows_like, is_pattern}
-use Rattle.thumb_encode.proofs.Coded.{one_bit, taken, passed}
+use Rattle.thumb_encode.proofs.Putting.{IsGiven, IsCoded, Leads, coded, coded_behind, full_row, first_answers, rows_like, is_pattern}
+use Rattle.thumb_encode.proofs.Coded.{one_bit, taken}
 
 -- the lowest w bits of a signed number
 abbrev pub lowest : ℕ → ℤ → ℕ
@@ -145,10 +143,10 @@ branch_of : (c : Cond) (offset : ℤ) → is_even offset ≡ true → is_signed 
 branch_of Al offset even e = always_of offset even e
 branch_of c offset even e = near_of c offset refl even e
 
-pub branch_coded : (i : BranchFields) → IsFormed (instr.Branch i) → has_full (instr.Branch i) ≡ true → IsCoded (instr.Branch i)
+pub branch_coded : (i : BranchFields) → IsGiven (instr.Branch i) → has_full (instr.Branch i) ≡ true → IsCoded (instr.Branch i)
 unfolding has_full
 branch_coded i f e = branch_of i.cond i.offset f.fields e
 
-pub call_coded : (i : CallFields) → IsFormed (instr.Call i) → has_full (instr.Call i) ≡ true → IsCoded (instr.Call i)
+pub call_coded : (i : CallFields) → IsGiven (instr.Call i) → has_full (instr.Call i) ≡ true → IsCoded (instr.Call i)
 unfolding has_full
 call_coded i f e = call_of i.offset f.fields e

@@ -1,5 +1,5 @@
 -- Instructions that the test takes have a code of two halfwords: data processing.
-use Rattle.std.proofs.Common.{◌≡◌, ℕ, ◌+◌, ◌-◌, ◌*◌, ◌/◌, ◌%◌, ◌^◌, ◌<◌, ◌≤◌, Bool, true, false, List, [], ◌∷◌, refl, ap, sym, ◌∙◌, subst, arith, Ok, Err, ◌==◌, ◌&&◌, ◌||◌, not, nat_lt, if◌then◌else◌}
+use Rattle.std.proofs.Common.{◌≡◌, ℕ, ◌+◌, ◌*◌, ◌/◌, ◌%◌, ◌^◌, ◌<◌, ◌≤◌, Bool, true, false, refl, ap, sym, ◌∙◌, subst, arith, Ok, ◌==◌, ◌&&◌, ◌||◌, not, nat_lt, if◌then◌else◌}
 use Rattle.std.proofs.lemmas.Bool.{and_parts, eqb-true, ltb-true}
 use Rattle.std.proofs.lemmas.Bool.Decides.{nat_tests}
 use Rattle.mark_word.specs.declared.numbers.Shift.{Shift}
@@ -20,12 +20,12 @@ use Rattle.thumb_instr.specs.Sets.{sums_with_carry}
 use Rattle.thumb_instr.specs.Meanings.{zero_as_32}
 use Rattle.thumb_instr.specs.DataRows.{names, is_rrx, has_odd_sp, alu_row, is_copy, move_row, takes_sp, test_row, or_test, or_move, data_processing, shifted}
 use Rattle.thumb_instr.specs.FullRows.{full_rows}
-use Rattle.thumb_instr.specs.Formed.{IsFormed, OperandNamesRegisters}
+use Rattle.thumb_instr.specs.Formed.{OperandNamesRegisters}
 use Rattle.thumb_encode.specs.HalfCodes.{shift_number}
 use Rattle.thumb_encode.specs.FullCodes.{bit, alu_number, move_number, test_number}
-use Rattle.thumb_encode.specs.HasFull.{has_full, move_has_full}
+use Rattle.thumb_encode.specs.HasFull.{has_full}
 use Rattle.thumb_encode.proofs.Covering.{if_false}
-use Rattle.thumb_encode.proofs.Putting.{IsCoded, coded}
+use Rattle.thumb_encode.proofs.Putting.{IsGiven, IsCoded, coded}
 use Rattle.thumb_encode.proofs.Coded.{four_bits, two_bits, no_pc, one_bit, bit_again, neither, not_true, not_false, taken, passed}
 
 -- operands
@@ -108,7 +108,7 @@ alu_is_small Sbc = omega arith
 alu_is_small Sub = omega arith
 alu_is_small Rsb = omega arith
 
-alu_takes : (i : AluFields) → IsFormed (instr.Alu i) → has_full (instr.Alu i) ≡ true → alu_row i.op i.s i.n i.d i.x ≡ Ok (instr.Alu i)
+alu_takes : (i : AluFields) → IsGiven (instr.Alu i) → has_full (instr.Alu i) ≡ true → alu_row i.op i.s i.n i.d i.x ≡ Ok (instr.Alu i)
 unfolding has_full alu_row
 alu_takes i f e =
     let both = and_parts (not (has_odd_sp i.op i.d i.n i.x)) (not (i.s && (sums_with_carry i.op || is_rrx i.x))) e in
@@ -116,7 +116,7 @@ alu_takes i f e =
     (passed _ _ _ _ (neither (has_odd_sp i.op i.d i.n i.x) (not (is_operand i.x)) (not_true _ both.0) (not_false (is_operand i.x) f.fields))
     (passed _ _ _ _ (not_true _ both.1) (taken (is_operand i.x) _ f.fields)))
 
-pub alu_coded : (i : AluFields) → IsFormed (instr.Alu i) → has_full (instr.Alu i) ≡ true → IsCoded (instr.Alu i)
+pub alu_coded : (i : AluFields) → IsGiven (instr.Alu i) → has_full (instr.Alu i) ≡ true → IsCoded (instr.Alu i)
 alu_coded i f e =
     let r = f.registers in
     data_of (alu_number i.op) i.s i.n i.d i.x _ (alu_is_small i.op) (four_bits i.n r.1) (four_bits i.d r.0) r.2 f.fields (alu_is i.op i.s i.n i.d i.x r.1 r.0 ∙ alu_takes i f e)
@@ -130,7 +130,7 @@ move_is_small : (op : MoveOp) → move_number op < 2 ^ 4
 move_is_small Mov = omega arith
 move_is_small Mvn = omega arith
 
-move_takes : (i : MoveFields) → IsFormed (instr.Move i) → has_full (instr.Move i) ≡ true → move_row i.op i.s i.d i.x ≡ Ok (instr.Move i)
+move_takes : (i : MoveFields) → IsGiven (instr.Move i) → has_full (instr.Move i) ≡ true → move_row i.op i.s i.d i.x ≡ Ok (instr.Move i)
 unfolding has_full move_row
 move_takes i f e =
     let odd = if is_copy i.op i.s i.x then (i.d == 13) && names 13 i.x else (i.d == 13) || names 13 i.x in
@@ -139,7 +139,7 @@ move_takes i f e =
     (passed _ _ _ _ (neither odd (not (is_operand i.x)) (not_true odd both.0) (not_false (is_operand i.x) f.fields))
     (passed _ _ _ _ (not_true _ both.1) (taken (is_operand i.x) _ f.fields)))
 
-pub move_coded : (i : MoveFields) → IsFormed (instr.Move i) → has_full (instr.Move i) ≡ true → IsCoded (instr.Move i)
+pub move_coded : (i : MoveFields) → IsGiven (instr.Move i) → has_full (instr.Move i) ≡ true → IsCoded (instr.Move i)
 move_coded i f e =
     data_of (move_number i.op) i.s 15 i.d i.x _ (move_is_small i.op) (omega arith) (four_bits i.d f.registers.0) f.registers.1 f.fields (move_is i.op i.s i.d i.x ∙ move_takes i f e)
 
@@ -156,7 +156,7 @@ test_is_small Teq = omega arith
 test_is_small Cmn = omega arith
 test_is_small Cmp = omega arith
 
-test_takes : (i : TestFields) → IsFormed (instr.Test i) → has_full (instr.Test i) ≡ true → test_row i.op i.n i.x ≡ Ok (instr.Test i)
+test_takes : (i : TestFields) → IsGiven (instr.Test i) → has_full (instr.Test i) ≡ true → test_row i.op i.n i.x ≡ Ok (instr.Test i)
 unfolding has_full test_row
 test_takes i f e =
     let odd = (i.n == 13) && not (takes_sp i.op) in
@@ -166,6 +166,6 @@ test_takes i f e =
     (passed _ _ _ _ (neither (odd || names 13 i.x) (not (is_operand i.x)) (neither odd (names 13 i.x) (not_true odd first.0) (not_true (names 13 i.x) first.1)) (not_false (is_operand i.x) f.fields))
     (passed _ _ _ _ (not_true _ both.1) (taken (is_operand i.x) _ f.fields)))
 
-pub test_coded : (i : TestFields) → IsFormed (instr.Test i) → has_full (instr.Test i) ≡ true → IsCoded (instr.Test i)
+pub test_coded : (i : TestFields) → IsGiven (instr.Test i) → has_full (instr.Test i) ≡ true → IsCoded (instr.Test i)
 test_coded i f e =
     data_of (test_number i.op) true i.n 15 i.x _ (test_is_small i.op) (four_bits i.n f.registers.0) (omega arith) f.registers.1 f.fields (test_is i.op i.n i.x ∙ test_takes i f e)

@@ -1,19 +1,16 @@
 -- Loads and stores of lists of registers that the test takes have a code of two halfwords.
-use Rattle.std.proofs.Common.{◌≡◌, ℕ, ◌+◌, ◌-◌, ◌*◌, ◌/◌, ◌%◌, ◌^◌, ◌<◌, ◌≤◌, Bool, true, false, List, [], ◌∷◌, refl, ap, sym, ◌∙◌, subst, arith, Ok, Err, ◌==◌, ◌&&◌, ◌||◌, not, nat_lt, if◌then◌else◌}
+use Rattle.std.proofs.Common.{◌≡◌, ℕ, ◌+◌, ◌*◌, ◌/◌, ◌%◌, ◌^◌, ◌<◌, ◌≤◌, Bool, true, false, refl, subst, arith, Ok, ◌==◌, ◌&&◌, ◌||◌, not, nat_lt}
 use Rattle.std.proofs.lemmas.Bool.{and_parts, eqb-true, ltb-true, eqb-false}
-use Rattle.std.proofs.lemmas.Bool.Decides.{nat_tests}
-use Rattle.thumb_instr.specs.declared.instructions.Instr.{Instr}
 use Rattle.thumb_instr.specs.declared.instructions.Instr.TheVariants as instr
 use Rattle.thumb_instr.specs.declared.refusals.ItPlace.TheVariants.{Outside}
 use Rattle.thumb_instr.specs.Fields.{MultiFields}
 use Rattle.thumb_instr.specs.Operands.{has, is_list}
 use Rattle.thumb_instr.specs.Meanings.{is_inside}
 use Rattle.thumb_instr.specs.FullRows.{full_rows, many, members, one_if}
-use Rattle.thumb_instr.specs.Formed.{IsFormed}
 use Rattle.thumb_encode.specs.FullCodes.{bit}
-use Rattle.thumb_encode.specs.HasFull.{has_full, multi_has_full, is_pop}
+use Rattle.thumb_encode.specs.HasFull.{has_full, is_pop}
 use Rattle.thumb_encode.proofs.Covering.{chosen}
-use Rattle.thumb_encode.proofs.Putting.{IsCoded, coded}
+use Rattle.thumb_encode.proofs.Putting.{IsGiven, IsCoded, coded}
 use Rattle.thumb_encode.proofs.Coded.{four_bits, no_pc, one_bit, bit_again, neither, not_true, taken, passed}
 
 list_is_small : (list : ℕ) (pc : Bool) → is_list list pc ≡ true → list < 2 ^ 15
@@ -84,7 +81,7 @@ or_second : (a b : Bool) → (a || b) ≡ true → a ≡ false → b ≡ true
 or_second true b e f = (cc)
 or_second false b e f = e
 
-pub multi_coded : (i : MultiFields) → IsFormed (instr.Multi i) → has_full (instr.Multi i) ≡ true → IsCoded (instr.Multi i)
+pub multi_coded : (i : MultiFields) → IsGiven (instr.Multi i) → has_full (instr.Multi i) ≡ true → IsCoded (instr.Multi i)
 unfolding has_full
 multi_coded i f e =
     let both = and_parts (not (i.pc && not (is_pop i))) ((i.list.0 == 0) || not (is_refused i.back i.n i.list.0 i.pc)) e in

@@ -1,5 +1,5 @@
 -- Instructions that the test takes have a code of two halfwords: constants, fields of bits, branches and hints.
-use Rattle.std.proofs.Common.{◌≡◌, ℕ, ℤ, pos, negsuc, zero, suc, ◌+◌, ◌-◌, ◌*◌, ◌/◌, ◌%◌, ◌^◌, ◌<◌, ◌≤◌, Bool, true, false, List, [], ◌∷◌, refl, ap, sym, ◌∙◌, subst, arith, Option, Some, None, Ok, Err, ◌==◌, ◌&&◌, ◌||◌, not, nat_lt, nat_le, if◌then◌else◌}
+use Rattle.std.proofs.Common.{◌≡◌, ℕ, ◌+◌, ◌-◌, ◌*◌, ◌/◌, ◌%◌, ◌^◌, ◌<◌, ◌≤◌, Bool, true, false, [], ◌∷◌, refl, ap, sym, ◌∙◌, arith, Option, Some, None, Ok, ◌==◌, ◌&&◌, not, nat_lt, nat_le}
 use Rattle.std.proofs.lemmas.Bool.{and_parts, eqb-true, ltb-true, leb-true}
 use Rattle.std.proofs.lemmas.Bool.Decides.{nat_tests}
 use Rattle.thumb_instr.specs.declared.operations.WideOp.{WideOp}
@@ -8,23 +8,17 @@ use Rattle.thumb_instr.specs.declared.operations.FieldOp.{FieldOp}
 use Rattle.thumb_instr.specs.declared.operations.FieldOp.TheVariants.{Sbfx, Ubfx, Bfi, Bfc}
 use Rattle.thumb_instr.specs.declared.operations.NothingOp.{NothingOp}
 use Rattle.thumb_instr.specs.declared.operations.NothingOp.TheVariants.{Nop, Dmb, Dsb, Isb}
-use Rattle.thumb_instr.specs.declared.conditions.Cond.{Cond}
-use Rattle.thumb_instr.specs.declared.conditions.Cond.TheVariants.{Al}
 use Rattle.thumb_instr.specs.declared.instructions.Instr.{Instr}
 use Rattle.thumb_instr.specs.declared.instructions.Instr.TheVariants as instr
-use Rattle.thumb_instr.specs.declared.refusals.ItPlace.TheVariants.{Outside}
-use Rattle.thumb_instr.specs.Fields.{WideFields, HalfFields, FieldFields, LiteralFields, AdrFields, BranchFields, CallFields, NothingFields}
-use Rattle.thumb_instr.specs.Operands.{is_number_of_12_bits, has_source, is_field, is_even, takes_option}
-use Rattle.thumb_instr.specs.Patterns.{Bits, Fixed, Field}
-use Rattle.thumb_instr.specs.Meanings.{signed}
-use Rattle.thumb_instr.specs.FullRows.{full_rows, wide_row, extract, insert, on_condition_branch, long_offset, one_if}
-use Rattle.thumb_instr.specs.Formed.{IsFormed, IsSource}
-use Rattle.thumb_encode.specs.HalfCodes.{condition_number}
+use Rattle.thumb_instr.specs.Fields.{WideFields, HalfFields, FieldFields, LiteralFields, AdrFields, NothingFields}
+use Rattle.thumb_instr.specs.Operands.{is_number_of_12_bits, has_source, is_field, takes_option}
+use Rattle.thumb_instr.specs.FullRows.{full_rows, wide_row, extract, insert}
+use Rattle.thumb_instr.specs.Formed.{IsSource}
 use Rattle.thumb_encode.specs.FullCodes.{bit}
-use Rattle.thumb_encode.specs.HasFull.{has_full, lacks_sp, source_of, is_signed, is_always}
-use Rattle.thumb_encode.proofs.Covering.{if_true, if_false}
-use Rattle.thumb_encode.proofs.Putting.{IsCoded, Leads, coded, full_row, rows_like}
-use Rattle.thumb_encode.proofs.Coded.{four_bits, no_pc, one_bit, bit_again, neither, not_true, taken, passed, plain_takes}
+use Rattle.thumb_encode.specs.HasFull.{has_full, lacks_sp, source_of}
+use Rattle.thumb_encode.proofs.Covering.{if_false}
+use Rattle.thumb_encode.proofs.Putting.{IsGiven, IsCoded, coded}
+use Rattle.thumb_encode.proofs.Coded.{four_bits, no_pc, one_bit, bit_again, not_true, taken, passed, plain_takes}
 use Rattle.thumb_encode.proofs.CodedData.{in_three_parts}
 
 -- ADDW, SUBW and ADR
@@ -57,7 +51,7 @@ wide_of : (op : WideOp) (d n imm : ℕ) → d ≤ 14 → n ≤ 14 → is_number_
 wide_of wide.Add d n imm ld ln f e = add_row n d imm _ (four_bits n ln) ld f (wide_takes wide.Add true n d imm ln ld f e)
 wide_of wide.Sub d n imm ld ln f e = subtract_row n d imm _ (four_bits n ln) ld f (wide_takes wide.Sub false n d imm ln ld f e)
 
-pub wide_coded : (i : WideFields) → IsFormed (instr.Wide i) → has_full (instr.Wide i) ≡ true → IsCoded (instr.Wide i)
+pub wide_coded : (i : WideFields) → IsGiven (instr.Wide i) → has_full (instr.Wide i) ≡ true → IsCoded (instr.Wide i)
 unfolding has_full
 wide_coded i f e = wide_of i.op i.d i.n i.imm f.registers.0 f.registers.1 f.fields e
 
@@ -65,7 +59,7 @@ adr_of : (d : ℕ) (up : Bool) (imm : ℕ) → d ≤ 14 → is_number_of_12_bits
 adr_of d true imm ld f e = add_row 15 d imm _ (omega arith) ld f (adr_takes wide.Add true d imm ld f e)
 adr_of d false imm ld f e = subtract_row 15 d imm _ (omega arith) ld f (adr_takes wide.Sub false d imm ld f e)
 
-pub adr_coded : (i : AdrFields) → IsFormed (instr.Adr i) → has_full (instr.Adr i) ≡ true → IsCoded (instr.Adr i)
+pub adr_coded : (i : AdrFields) → IsGiven (instr.Adr i) → has_full (instr.Adr i) ≡ true → IsCoded (instr.Adr i)
 unfolding has_full
 adr_coded i f e = adr_of i.d i.up i.imm f.registers f.fields e
 
@@ -85,13 +79,13 @@ half_of true d imm ld e f =
     coded 8 (imm / 2048 % 2, (imm / 4096, (imm / 256 % 8, (d, (imm % 256, tt))))) _ refl refl (omega arith, (omega arith, (omega arith, (four_bits d ld, (omega arith, tt)))))
     (plain_takes (d ∷ []) _ _ (ld, tt) e (ap (λ (k : ℕ). Ok (instr.Half (record { top = true; d = d; imm = k }))) (in_four_parts imm)))
 
-pub half_coded : (i : HalfFields) → IsFormed (instr.Half i) → has_full (instr.Half i) ≡ true → IsCoded (instr.Half i)
+pub half_coded : (i : HalfFields) → IsGiven (instr.Half i) → has_full (instr.Half i) ≡ true → IsCoded (instr.Half i)
 unfolding has_full
 half_coded i f e = let both = and_parts (lacks_sp (i.d ∷ [])) (nat_lt i.imm (2 ^ 16)) e in half_of i.top i.d i.imm f.registers both.0 both.1
 
 -- literals
 
-pub literal_coded : (i : LiteralFields) → IsFormed (instr.Literal i) → has_full (instr.Literal i) ≡ true → IsCoded (instr.Literal i)
+pub literal_coded : (i : LiteralFields) → IsGiven (instr.Literal i) → has_full (instr.Literal i) ≡ true → IsCoded (instr.Literal i)
 unfolding full_rows has_full
 literal_coded i f e =
     let less = ltb-true i.imm 4096 f.fields in
@@ -107,7 +101,7 @@ nothing_of Dsb option f = let less = leb-true option 15 f in coded 16 (option, t
 nothing_of Dmb option f = let less = leb-true option 15 f in coded 17 (option, tt) _ refl refl (omega arith, tt) (taken (takes_option Dmb option) _ f)
 nothing_of Isb option f = let less = leb-true option 15 f in coded 18 (option, tt) _ refl refl (omega arith, tt) (taken (takes_option Isb option) _ f)
 
-pub nothing_coded : (i : NothingFields) → IsFormed (instr.Nothing i) → has_full (instr.Nothing i) ≡ true → IsCoded (instr.Nothing i)
+pub nothing_coded : (i : NothingFields) → IsGiven (instr.Nothing i) → has_full (instr.Nothing i) ≡ true → IsCoded (instr.Nothing i)
 nothing_coded i f e = nothing_of i.op i.option f.fields
 
 -- fields of bits
@@ -157,7 +151,7 @@ field_of Bfc d None lsb width ld ln least most f e =
     coded 11 (15, (lsb / 4, (d, (lsb % 4, (lsb + width - 1, tt))))) _ refl refl (omega arith, (omega arith, (four_bits d ld, (omega arith, (omega arith, tt)))))
     (ap (λ (k : ℕ). insert 15 d k (lsb + width - 1)) (five_bits lsb) ∙ clear_takes d lsb width ld least f e)
 
-pub field_coded : (i : FieldFields) → IsFormed (instr.Field i) → has_full (instr.Field i) ≡ true → IsCoded (instr.Field i)
+pub field_coded : (i : FieldFields) → IsGiven (instr.Field i) → has_full (instr.Field i) ≡ true → IsCoded (instr.Field i)
 unfolding has_full
 field_coded i f e =
     let both = and_parts (has_source i.op i.n && nat_le 1 i.width) (nat_le (i.lsb + i.width) 32) f.fields in

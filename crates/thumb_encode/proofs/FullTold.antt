@@ -1,5 +1,5 @@
 -- Each instruction that two halfwords stand for outside of IT blocks is one that the test takes.
-use Rattle.std.proofs.Common.{◌≡◌, ℕ, ℤ, pos, negsuc, ◌+◌, ◌-◌, ◌*◌, ◌/◌, ◌%◌, ◌^◌, ◌<◌, ◌≤◌, Bool, true, false, List, [], ◌∷◌, refl, ap, sym, ◌∙◌, subst, arith, Option, Some, None, Ok, ◌==◌, ◌&&◌, ◌||◌, not, nat_lt, if◌then◌else◌, slice_get}
+use Rattle.std.proofs.Common.{◌≡◌, ℕ, ℤ, pos, negsuc, ◌+◌, ◌-◌, ◌*◌, ◌^◌, ◌<◌, Bool, true, false, List, [], ◌∷◌, refl, subst, arith, Option, Some, None, Ok, ◌==◌, ◌&&◌, ◌||◌, not, nat_lt, if◌then◌else◌, slice_get}
 use Rattle.std.specs.Prelude.{unwrap_or}
 use Rattle.std.specs.List.{list_any}
 use Rattle.std.proofs.lemmas.Bool.{and_from, ltb-false}
@@ -12,14 +12,13 @@ use Rattle.thumb_instr.specs.declared.operations.TestOp.{TestOp}
 use Rattle.thumb_instr.specs.declared.operations.TestOp.TheVariants.{Tst, Teq, Cmn, Cmp}
 use Rattle.thumb_instr.specs.declared.operations.WideOp.{WideOp}
 use Rattle.thumb_instr.specs.declared.operations.FieldOp.{FieldOp}
-use Rattle.thumb_instr.specs.declared.operations.FieldOp.TheVariants.{Bfi, Bfc}
 use Rattle.thumb_instr.specs.declared.operations.UnaryOp.{UnaryOp}
 use Rattle.thumb_instr.specs.declared.operations.UnaryOp.TheVariants.{Sxth, Sxtb, Uxth, Uxtb, Rev, Rev16, Revsh, Rbit, Clz}
 use Rattle.thumb_instr.specs.declared.operations.NothingOp.TheVariants.{Nop}
 use Rattle.thumb_instr.specs.declared.operations.AccessOp.{AccessOp}
 use Rattle.thumb_instr.specs.declared.operands.Operand.{Operand}
 use Rattle.thumb_instr.specs.declared.places.Place.{Place}
-use Rattle.thumb_instr.specs.declared.places.Place.TheVariants.{Offset, Pre, Post, Index}
+use Rattle.thumb_instr.specs.declared.places.Place.TheVariants.{Offset, Pre, Post}
 use Rattle.thumb_instr.specs.declared.places.PairIndex.{PairIndex}
 use Rattle.thumb_instr.specs.declared.places.PairIndex.TheVariants as index
 use Rattle.thumb_instr.specs.declared.instructions.Instr.{Instr}
@@ -31,7 +30,7 @@ use Rattle.thumb_instr.specs.Patterns.{Answer, cut, decoded, refused}
 use Rattle.thumb_instr.specs.Meanings.{signed, is_inside, conditions, unary, half, branch}
 use Rattle.thumb_instr.specs.Sets.{sums_with_carry}
 use Rattle.thumb_instr.specs.DataRows.{names, is_rrx, has_odd_sp, alu_row, is_copy, move_row, takes_sp, test_row, or_test, or_move, unknown, operations, data_processing}
-use Rattle.thumb_instr.specs.FullRows.{on_plain, members, one_if, many, two_words, exclusive, dual, wide_row, extract, insert, on_condition_branch, long_offset, accesses, on_access, access_row, by_byte, by_register, product, full_rows}
+use Rattle.thumb_instr.specs.FullRows.{on_plain, members, one_if, many, two_words, exclusive, dual, wide_row, extract, insert, on_condition_branch, long_offset, accesses, access_row, by_byte, by_register, product, full_rows}
 use Rattle.thumb_encode.specs.HasFull.{has_full, lacks_sp, is_signed, is_always, is_changed, place_has_full}
 use Rattle.thumb_encode.proofs.Covering.{OfAnswer, OfRows, Each, done, ◌&◌, each-get, of_table, of_when, of_unless, of_either, of_condition, chosen}
 use Rattle.thumb_encode.proofs.FullMeanings.{of_access}

@@ -7,6 +7,7 @@ use Rattle.thumb_instr.specs.declared.refusals.BadInstr.TheVariants.{Unknown}
 use Rattle.thumb_instr.specs.Patterns.{Bits, Fixed, Field, Made, Row, Answer, cut, fits, filled_in, decoded}
 use Rattle.thumb_instr.specs.declared.refusals.ItPlace.TheVariants.{Outside}
 use Rattle.thumb_instr.specs.FullRows.{full_rows}
+use Rattle.thumb_instr.specs.Formed.{NamesRegisters, TakesFields}
 use Rattle.thumb_decode.specs.KnownBits.{HasBits, with_bits}
 use Rattle.thumb_decode.proofs.KnownBits.{bit_of_cut, known_bits}
 use Rattle.thumb_decode.proofs.Narrow.{cut_first}
@@ -169,6 +170,11 @@ made ps fs is small =
       wide = begin_is_wide ps fs (put ps fs 0) both.1 cuts;
       has = cuts_have ps fs 32 (put ps fs 0) whole most cuts;
     }
+
+-- what is given of an instruction
+pub record IsGiven (i : Instr) : Type 0 where
+  pub registers : NamesRegisters i
+  pub fields : TakesFields i
 
 -- The instruction has a code of two halfwords, as one number.
 pub record IsCoded (i : Instr) : Type 0 where

@@ -1,5 +1,5 @@
 -- The test tells exactly the instructions that two halfwords stand for.
-use Rattle.std.proofs.Common.{◌≡◌, ℕ, ◌+◌, ◌*◌, ◌/◌, ◌%◌, ◌^◌, ◌<◌, ◌≤◌, true, false, refl, ap, sym, ◌∙◌, subst, arith, Ok, Some, None, nat_le, IsTrue, ◌↔◌}
+use Rattle.std.proofs.Common.{◌≡◌, ◌+◌, ◌*◌, ◌/◌, ◌%◌, ◌^◌, ◌<◌, ◌≤◌, true, ap, sym, ◌∙◌, arith}
 use Rattle.std.proofs.lemmas.Bool.Decides.{nat_tests}
 use Rattle.thumb_instr.specs.declared.instructions.Instr.{Instr}
 use Rattle.thumb_instr.specs.declared.instructions.Instr.TheVariants as instr
@@ -7,11 +7,10 @@ use Rattle.thumb_instr.specs.declared.refusals.ItPlace.TheVariants.{Outside}
 use Rattle.thumb_instr.specs.Patterns.{decoded}
 use Rattle.thumb_instr.specs.HalfRows.{half_rows}
 use Rattle.thumb_instr.specs.FullRows.{full_rows}
-use Rattle.thumb_instr.specs.Rows.{is_wide, decode}
-use Rattle.thumb_instr.specs.Formed.{IsFormed}
+use Rattle.thumb_instr.specs.Rows.{is_wide}
 use Rattle.thumb_encode.specs.HasFull.{has_full, HasCode, TellsCodes}
 use Rattle.thumb_encode.proofs.Covering.{if_true}
-use Rattle.thumb_encode.proofs.Putting.{IsCoded}
+use Rattle.thumb_encode.proofs.Putting.{IsGiven, IsCoded}
 use Rattle.thumb_encode.proofs.Coded.{shift_by_coded, mul_coded, mul_acc_coded, long_mul_coded, div_coded, unary_coded}
 use Rattle.thumb_encode.proofs.CodedData.{alu_coded, move_coded, test_coded}
 use Rattle.thumb_encode.proofs.CodedNumbers.{wide_coded, half_coded, field_coded, literal_coded, adr_coded, nothing_coded}
@@ -20,7 +19,7 @@ use Rattle.thumb_encode.proofs.CodedAccesses.{access_coded, pair_coded}
 use Rattle.thumb_encode.proofs.CodedLists.{multi_coded}
 use Rattle.thumb_encode.proofs.FullTold.{code_told}
 
-full_coded : (i : Instr) → IsFormed i → has_full i ≡ true → IsCoded i
+full_coded : (i : Instr) → IsGiven i → has_full i ≡ true → IsCoded i
 unfolding has_full
 full_coded (instr.Alu i) f e = alu_coded i f e
 full_coded (instr.Move i) f e = move_coded i f e
@@ -74,4 +73,4 @@ told i code =
     (sym (if_true (is_wide first) (decoded 32 (full_rows Outside) (first * 2 ^ 16 + second)) (decoded 16 (half_rows Outside) first) is.2) ∙ is.3)
 
 pub tells_codes : TellsCodes
-tells_codes = λ i formed. (λ e. halves i (full_coded i formed e), λ code. told i code)
+tells_codes = λ i registers fields. (λ e. halves i (full_coded i (record { registers = registers; fields = fields }) e), λ code. told i code)

@@ -1,14 +1,13 @@
--- Which instructions have a code of two halfwords (ARMv7-M ARM, A5.3), of those that are formed.
-use Rattle.std.specs.Prelude.{◌≡◌, ℕ, ℤ, pos, negsuc, ◌+◌, ◌-◌, ◌*◌, ◌^◌, ◌<◌, ◌==◌, ◌&&◌, ◌||◌, nat_lt, not, Bool, true, false, List, [], ◌∷◌, Option, Some, None, if◌then◌else◌, IsTrue, ◌↔◌}
+-- Which instructions have a code of two halfwords outside of IT blocks (ARMv7-M ARM, A5.3), of those that name registers
+-- from r0 to lr and take their fields.
+use Rattle.std.specs.Prelude.{ℕ, ℤ, pos, negsuc, ◌+◌, ◌-◌, ◌^◌, ◌==◌, ◌&&◌, ◌||◌, nat_lt, not, Bool, true, false, List, [], ◌∷◌, Option, Some, None, if◌then◌else◌, IsTrue, ◌↔◌}
 use Rattle.std.specs.List.{list_any}
-use Rattle.thumb_instr.specs.declared.operations.WideOp.{WideOp}
-use Rattle.thumb_instr.specs.declared.operands.Operand.{Operand}
 use Rattle.thumb_instr.specs.declared.places.Place.{Place}
 use Rattle.thumb_instr.specs.declared.places.Place.TheVariants.{Offset, Pre, Post, Index}
 use Rattle.thumb_instr.specs.declared.places.PairIndex.{PairIndex}
 use Rattle.thumb_instr.specs.declared.places.PairIndex.TheVariants as index
 use Rattle.thumb_instr.specs.declared.conditions.Cond.{Cond}
-use Rattle.thumb_instr.specs.declared.conditions.Cond.TheVariants.{Eq, Ne, Cs, Cc, Mi, Pl, Vs, Vc, Hi, Ls, Ge, Lt, Gt, Le, Al}
+use Rattle.thumb_instr.specs.declared.conditions.Cond.TheVariants.{Al}
 use Rattle.thumb_instr.specs.declared.instructions.Instr.{Instr}
 use Rattle.thumb_instr.specs.declared.instructions.Instr.TheVariants as instr
 use Rattle.thumb_instr.specs.Fields.{AluFields, MoveFields, TestFields, PairFields, MultiFields}
@@ -16,7 +15,7 @@ use Rattle.thumb_instr.specs.Operands.{has}
 use Rattle.thumb_instr.specs.Sets.{sums_with_carry}
 use Rattle.thumb_instr.specs.DataRows.{names, is_rrx, has_odd_sp, is_copy, takes_sp}
 use Rattle.thumb_instr.specs.FullRows.{members, one_if}
-use Rattle.thumb_instr.specs.Formed.{IsFormed}
+use Rattle.thumb_instr.specs.Formed.{NamesRegisters, TakesFields}
 use Rattle.thumb_encode.specs.declared.codes.Code.TheVariants as code
 use Rattle.thumb_encode.specs.Encoding.{StandsFor}
 
@@ -107,6 +106,7 @@ has_full (instr.Trap i) = false
 abbrev pub HasCode : Instr → Type 0
 HasCode i = (first : ℕ) × (second : ℕ) × StandsFor (code.Full first second) i
 
--- Exactly the instructions that the test takes have a code of two halfwords.
+-- Of the instructions that name registers and take their fields, as formed ones do, exactly those that the test takes
+-- have a code of two halfwords.
 abbrev pub TellsCodes : Type 0
-TellsCodes = (i : Instr) → IsFormed i → IsTrue (has_full i) ↔ HasCode i
+TellsCodes = (i : Instr) → NamesRegisters i → TakesFields i → IsTrue (has_full i) ↔ HasCode i

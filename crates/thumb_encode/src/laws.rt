@@ -2,7 +2,8 @@
 
 ghost use Rattle.thumb_encode.specs.HasFull.{TellsCodes};
 
-/// Exactly the formed instructions that `has_full` takes have a code of two halfwords.
+/// Exactly the instructions that `has_full` takes have a code of two halfwords, of those that name
+/// registers and take their fields.
 pub fn full_codes_are_told()
     ensures { TellsCodes }
 {}
