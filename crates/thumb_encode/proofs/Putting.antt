@@ -74,13 +74,15 @@ put_cuts : (ps : List Bits) (fs : Fields ps) (high top : ℕ) → top ≡ size p
 put_cuts [] fs high top is sound small = tt
 put_cuts (Fixed w v ∷ ps) fs high top is sound small =
     let rest : top - w ≡ size ps = omega arith in
-    let both = and_parts (nat_lt v (2 ^ w)) (is_sound ps) sound in
-    (one_cut (put ps fs (high * 2 ^ w + v)) top w (size ps) high v is (ltb-true v (2 ^ w) both.0) (put_high ps fs (high * 2 ^ w + v) both.1 small),
-    put_cuts ps fs (high * 2 ^ w + v) (top - w) rest both.1 small)
+    let both = and_parts (nat_lt v (2 ^ w)) (is_sound ps) sound in (
+      one_cut (put ps fs (high * 2 ^ w + v)) top w (size ps) high v is (ltb-true v (2 ^ w) both.0) (put_high ps fs (high * 2 ^ w + v) both.1 small),
+      put_cuts ps fs (high * 2 ^ w + v) (top - w) rest both.1 small,
+    )
 put_cuts (Field w ∷ ps) fs high top is sound small =
-    let rest : top - w ≡ size ps = omega arith in
-    (one_cut (put ps fs.1 (high * 2 ^ w + fs.0)) top w (size ps) high fs.0 is small.0 (put_high ps fs.1 (high * 2 ^ w + fs.0) sound small.1),
-    put_cuts ps fs.1 (high * 2 ^ w + fs.0) (top - w) rest sound small.1)
+    let rest : top - w ≡ size ps = omega arith in (
+      one_cut (put ps fs.1 (high * 2 ^ w + fs.0)) top w (size ps) high fs.0 is small.0 (put_high ps fs.1 (high * 2 ^ w + fs.0) sound small.1),
+      put_cuts ps fs.1 (high * 2 ^ w + fs.0) (top - w) rest sound small.1,
+    )
 
 cuts_fit : (ps : List Bits) (fs : Fields ps) (top h : ℕ) → Cuts ps fs top h → fits ps top h ≡ true
 cuts_fit [] fs top h cuts = refl
@@ -112,9 +114,11 @@ has_from h top w v (suc k) rest inside small most is has =
     let high : at < top = omega arith in
     let back : at - (top - w) ≡ k = omega arith in
     let less : at < 32 = omega arith in
-    let fewer : k ≤ w = omega arith in
-    (less, sym (bit_of_cut h top w at inside low high) ∙ ap (λ (j : ℕ). cut h top w / 2 ^ j % 2) back ∙ ap (λ (x : ℕ). x / 2 ^ k % 2) is,
-    has_from h top w v k rest inside small fewer is has)
+    let fewer : k ≤ w = omega arith in (
+      less,
+      sym (bit_of_cut h top w at inside low high) ∙ ap (λ (j : ℕ). cut h top w / 2 ^ j % 2) back ∙ ap (λ (x : ℕ). x / 2 ^ k % 2) is,
+      has_from h top w v k rest inside small fewer is has,
+    )
 
 cuts_have : (ps : List Bits) (fs : Fields ps) (top h : ℕ) → top ≡ size ps → top ≤ 32 → Cuts ps fs top h → HasBits h (fixed_bits ps top)
 cuts_have [] fs top h is small cuts = tt

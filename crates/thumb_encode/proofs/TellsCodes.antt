@@ -59,10 +59,17 @@ halves i code =
     let low : second < 2 ^ 16 = omega arith in
     let top : 29 ≤ first / 2 ^ 11 = omega arith in
     let begins : is_wide first ≡ true = grind (arith, nat_tests) in
-    let whole : first * 2 ^ 16 + second ≡ c = omega arith in
-    (first, second, (high, low, begins,
-    if_true (is_wide first) (decoded 32 (full_rows Outside) (first * 2 ^ 16 + second)) (decoded 16 (half_rows Outside) first) begins
-    ∙ ap (decoded 32 (full_rows Outside)) whole ∙ code.stands))
+    let whole : first * 2 ^ 16 + second ≡ c = omega arith in (
+      first,
+      second,
+      (
+        high,
+        low,
+        begins,
+        if_true (is_wide first) (decoded 32 (full_rows Outside) (first * 2 ^ 16 + second)) (decoded 16 (half_rows Outside) first) begins
+            ∙ ap (decoded 32 (full_rows Outside)) whole ∙ code.stands,
+      ),
+    )
 
 told : (i : Instr) → HasCode i → has_full i ≡ true
 told i code =

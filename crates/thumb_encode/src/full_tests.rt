@@ -1,11 +1,11 @@
 //! Which instructions have a code of two halfwords.
 
-ghost use Rattle.std.specs.Prelude.{◌≡◌, ℕ, ◌+◌, ◌/◌, ◌%◌, ◌^◌, ◌<◌, ◌≤◌, ◌==◌, ◌&&◌, ◌||◌, not, nat_lt, true, false, [], ◌∷◌, if◌then◌else◌};
+ghost use Rattle.std.specs.Prelude.{◌≡◌, ℕ, ◌+◌, ◌/◌, ◌%◌, ◌^◌, ◌<◌, ◌≤◌, ◌==◌, ◌&&◌, ◌||◌, ◌↔◌, IsTrue, not, nat_lt, true, false, [], ◌∷◌, if◌then◌else◌};
 ghost use Rattle.thumb_instr.specs.FullRows.{members, one_if};
-ghost use Rattle.thumb_encode.specs.HasFull.{lacks_sp, source_of, is_signed as is_signed_of, alu_has_full as alu_full, move_has_full as move_full, test_has_full as test_full, place_has_full as place_full, is_changed as is_changed_of, pair_has_full as pair_full, is_pop as is_pop_of, multi_has_full as multi_full, is_always as is_always_of, has_full};
-
+ghost use Rattle.thumb_encode.specs.HasFull.{lacks_sp, source_of, is_signed as is_signed_of, alu_has_full as alu_full, move_has_full as move_full, test_has_full as test_full, place_has_full as place_full, is_changed as is_changed_of, pair_has_full as pair_full, is_pop as is_pop_of, multi_has_full as multi_full, is_always as is_always_of, has_full, HasCode};
 ghost use Rattle.thumb_instr.specs.DataRows.{is_copy as is_copy_of, names};
 
+use crate::given::given;
 use crate::operand_tests::{
     has_odd_sp, is_copy, is_rrx, is_sp, names_sp, sums_with_carry, takes_sp,
 };
@@ -87,13 +87,7 @@ fn place_has_full(t: Reg, n: Reg, place: Place) -> bool
     ensures { result ≡ place_full t n place }
 {
     match place {
-        Place::Offset { up, imm } => {
-            if up {
-                imm < 4096
-            } else {
-                imm < 256
-            }
-        }
+        Place::Offset { up, imm } => { if up { imm < 4096 } else { imm < 256 } }
         Place::Pre { imm, .. } => imm < 256 && n.number() != t.number(),
         Place::Post { imm, .. } => imm < 256 && n.number() != t.number(),
         Place::Index { m, .. } => !is_sp(m),
@@ -159,9 +153,7 @@ fn multi_has_full(a: &Multi) -> bool
         return false;
     }
     list == 0
-        || !(has_fewer_than_two(list, a.pc)
-            || a.pc && a.list.has(lr)
-            || a.back && a.list.has(a.n))
+        || !(has_fewer_than_two(list, a.pc) || a.pc && a.list.has(lr) || a.back && a.list.has(a.n))
 }
 
 fn is_always(c: Cond) -> bool
@@ -195,9 +187,8 @@ fn branch_has_full(a: &Branch) -> bool
     }
 }
 
-/// Whether two halfwords stand for the instruction outside of IT blocks.
 #[tactic(auto, unfolding(crate::specs::HasFull::has_full))]
-pub fn has_full(i: &Instr) -> bool
+fn test(i: &Instr) -> bool
     ensures { result ≡ has_full i.now }
 {
     match i {
@@ -223,4 +214,13 @@ pub fn has_full(i: &Instr) -> bool
         Instr::Nothing(_) => true,
         _ => false,
     }
+}
+
+/// Whether two halfwords stand for the instruction outside of IT blocks.
+pub fn has_full(i: &Instr) -> bool
+    ensures value { result ≡ has_full i.now }
+    ensures codes { IsTrue result ↔ HasCode i.now }
+{
+    given(i);
+    test(i)
 }

@@ -5,6 +5,7 @@ mod codes;
 mod encoding;
 mod full_candidates;
 mod full_tests;
+mod given;
 mod half_candidates;
 mod laws;
 mod operand_tests;
