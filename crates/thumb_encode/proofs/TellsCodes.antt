@@ -1,5 +1,5 @@
 -- The test tells exactly the instructions that two halfwords stand for.
-use Rattle.std.proofs.Common.{◌≡◌, ◌+◌, ◌*◌, ◌/◌, ◌%◌, ◌^◌, ◌<◌, ◌≤◌, true, ap, sym, ◌∙◌, arith}
+use Rattle.std.proofs.Common.{◌≡◌, ℕ, refl, false, ◌+◌, ◌*◌, ◌/◌, ◌%◌, ◌^◌, ◌<◌, ◌≤◌, true, ap, sym, ◌∙◌, arith}
 use Rattle.std.proofs.lemmas.Bool.Decides.{nat_tests}
 use Rattle.thumb_instr.specs.declared.instructions.Instr.{Instr}
 use Rattle.thumb_instr.specs.declared.instructions.Instr.TheVariants as instr
@@ -8,8 +8,11 @@ use Rattle.thumb_instr.specs.Patterns.{decoded}
 use Rattle.thumb_instr.specs.HalfRows.{half_rows}
 use Rattle.thumb_instr.specs.FullRows.{full_rows}
 use Rattle.thumb_instr.specs.Rows.{is_wide}
+use Rattle.thumb_instr.specs.Formed.{NamesRegisters, TakesFields}
+use Rattle.thumb_encode.specs.declared.codes.Code.TheVariants as code
+use Rattle.thumb_encode.specs.Encoding.{StandsFor}
 use Rattle.thumb_encode.specs.HasFull.{has_full, HasCode, TellsCodes}
-use Rattle.thumb_encode.proofs.Covering.{if_true}
+use Rattle.thumb_encode.proofs.Covering.{if_true, chosen}
 use Rattle.thumb_encode.proofs.Putting.{IsGiven, IsCoded}
 use Rattle.thumb_encode.proofs.Coded.{shift_by_coded, mul_coded, mul_acc_coded, long_mul_coded, div_coded, unary_coded}
 use Rattle.thumb_encode.proofs.CodedData.{alu_coded, move_coded, test_coded}
@@ -81,3 +84,12 @@ told i code =
 
 pub tells_codes : TellsCodes
 tells_codes = λ i registers fields. (λ e. halves i (full_coded i (record { registers = registers; fields = fields }) e), λ code. told i code)
+
+pub has_code : (i : Instr) (first second : ℕ) → StandsFor (code.Full first second) i → true ≡ has_full i
+has_code i first second is = sym (told i (first, second, is))
+
+pub no_code : (i : Instr) → NamesRegisters i → TakesFields i → ((first second : ℕ) → StandsFor (code.Full first second) i → ⊥) → false ≡ has_full i
+no_code i registers fields none =
+    chosen (λ b. has_full i ≡ b → false ≡ b) (has_full i)
+    (λ e _. let code = halves i (full_coded i (record { registers = registers; fields = fields }) e) in absurd (none code.0 code.1 code.2))
+    (λ _ _. refl) refl

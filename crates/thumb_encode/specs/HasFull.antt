@@ -36,15 +36,16 @@ is_signed w (negsuc n) = nat_lt n (2 ^ (w - 1))
 abbrev pub alu_has_full : AluFields → Bool
 alu_has_full i = not (has_odd_sp i.op i.d i.n i.x) && not (i.s && (sums_with_carry i.op || is_rrx i.x))
 
--- sp is copied or written by a copy, and else neither
+-- a copy of a register has sp on one side at most, any other move on none; flags are not both read and set
 abbrev pub move_has_full : MoveFields → Bool
 move_has_full i =
     not (if is_copy i.op i.s i.x then (i.d == 13) && names 13 i.x else (i.d == 13) || names 13 i.x) && not (i.s && is_rrx i.x)
 
+-- CMN and CMP alone take sp, as their first operand
 abbrev pub test_has_full : TestFields → Bool
 test_has_full i = not ((i.n == 13) && not (takes_sp i.op)) && not (names 13 i.x) && not (is_rrx i.x)
 
--- an offset of 12 bits upwards, else of 8; a base that changes is not transferred
+-- an offset has 12 bits upwards and 8 downwards or with a change of the base, which then is not transferred
 abbrev pub place_has_full : ℕ → ℕ → Place → Bool
 place_has_full t n (Offset true imm) = nat_lt imm 4096
 place_has_full t n (Offset false imm) = nat_lt imm 256
@@ -61,11 +62,12 @@ is_changed index.Post = true
 abbrev pub pair_has_full : PairFields → Bool
 pair_has_full i = lacks_sp (i.t ∷ i.u ∷ []) && not (i.load && (i.t == i.u)) && not (is_changed i.index && ((i.n == i.t) || (i.n == i.u)))
 
+-- LDM of sp, upwards and with a change of the base
 abbrev pub is_pop : MultiFields → Bool
 is_pop i = i.load && not i.down && i.back && (i.n == 13)
 
--- pc is loaded by a pop, which may load it alone; else there are two registers or more, not both of lr and pc, and
--- a base that changes is not transferred
+-- pc is loaded by a pop, and may be the only one; else there are two registers or more, lr and pc are not both loaded,
+-- and a base that changes is not transferred
 abbrev pub multi_has_full : MultiFields → Bool
 multi_has_full i =
     not (i.pc && not (is_pop i))
