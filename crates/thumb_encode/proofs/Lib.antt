@@ -7,4 +7,13 @@ pub mod Standing
 pub mod DataCovering
 pub mod FullMeanings
 pub mod FullCovering
+pub mod Putting
+pub mod Coded
+pub mod CodedData
+pub mod CodedNumbers
+pub mod CodedBranches
+pub mod CodedAccesses
+pub mod CodedLists
+pub mod FullTold
+pub mod TellsCodes
 pub mod Examples

@@ -1,3 +1,4 @@
 pub mod Encoding
 pub mod HalfCodes
 pub mod FullCodes
+pub mod HasFull

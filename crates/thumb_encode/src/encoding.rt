@@ -1,14 +1,17 @@
 //! Encoding: the candidates that the decoder takes for the instruction.
 
-ghost use Rattle.std.specs.Prelude.{◌≡◌, ◌<◌, ◌≤◌, ◌+◌, ◌*◌, ◌^◌, ℕ, ◌↔◌, IsTrue, IfSome, IfNone, Some};
+ghost use Rattle.std.specs.Prelude.{◌≡◌, ◌<◌, ◌≤◌, ◌+◌, ◌*◌, ◌^◌, ℕ, ◌↔◌, IsTrue, IfSome, IfNone, Some, is_some};
 ghost use Rattle.thumb_instr.specs.HalfRows.{half_rows};
 ghost use Rattle.thumb_instr.specs.FullRows.{full_rows};
 ghost use Rattle.thumb_encode.specs.declared.codes.Code.{Code};
 ghost use Rattle.thumb_encode.specs.declared.codes.Code.TheVariants as code;
 ghost use Rattle.thumb_encode.specs.declared.codes.Width.TheVariants as width;
+ghost use Rattle.thumb_encode.specs.declared.codes.Width.TheVariants.{Full};
 ghost use Rattle.thumb_encode.specs.Encoding.{StandsFor, IsCodeOf, row_number};
+ghost use Rattle.thumb_encode.specs.HasFull.{has_full};
 
 use crate::full_candidates::full_candidate;
+use crate::given::given;
 use crate::half_candidates::{half_candidate, later_half};
 use crate::{Code, Width};
 use thumb_decode::{ItPlace, decode, is_wide};
@@ -70,7 +73,9 @@ fn encode_full(i: &Instr) -> Option<Code>
     ensures gives { IfSome result (λ c. IsCodeOf i.now width.Full c) }
     ensures none { IfNone result ((c : Code) → ¬ IsCodeOf i.now width.Full c) }
     ensures only { IfSome result (λ c. (other : Code) → IsCodeOf i.now width.Full other → other ≡ c) }
+    ensures told { is_some result ≡ has_full i.now }
 {
+    given(i);
     match full_candidate(i) {
         Some(number) => {
             let first = (number / 65536) as u16;
@@ -94,6 +99,7 @@ pub fn encode(i: &Instr, width: Width) -> Option<Code>
     ensures none { IfNone result ((c : Code) → ¬ IsCodeOf i.now width c) }
     ensures first { IfSome result (λ c. (other : Code) → IsCodeOf i.now width other → row_number c ≤ row_number other) }
     ensures only { IfSome result (λ c. (other : Code) → IsCodeOf i.now width other → row_number other ≡ row_number c → other ≡ c) }
+    ensures full { width ≡ Full → is_some result ≡ has_full i.now }
 {
     match width {
         Width::Half => encode_half(i),

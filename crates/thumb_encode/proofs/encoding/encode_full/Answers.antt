@@ -1,7 +1,9 @@
-use Rattle.std.proofs.Common.{◌≡◌, subst, sym, ◌∙◌, true, false, Some, None}
+use Rattle.std.proofs.Common.{◌≡◌, refl, subst, sym, ◌∙◌, true, false, Some, None}
 use Rattle.thumb_encode.specs.declared.codes.Code.{Code}
+use Rattle.thumb_encode.specs.declared.codes.Code.TheVariants as code
 use Rattle.thumb_encode.specs.Encoding.{StandsFor}
 use Rattle.thumb_encode.specs.FullCodes.{full_code}
+use Rattle.thumb_encode.proofs.TellsCodes.{has_code, no_code}
 use Rattle.thumb_encode.proofs.Standing.{no-full, only-full}
 use Rattle.thumb_encode.proofs.encoding.encode_full.Goals as goal
 
@@ -18,3 +20,14 @@ returns-else-is_full-clause-none c = λ k is.
 
 pub returns-in-None-clause-none : goal.returns-in-None-clause-none
 returns-in-None-clause-none c = let none : full_code c.args.i.now ≡ None = cc in no-full c.args.i.now none
+
+pub returns-then-is_full-clause-told : goal.returns-then-is_full-clause-told
+returns-then-is_full-clause-told c = has_code c.args.i.now _ _ (c.is_full.ensures.0 c.if-is_full.true)
+
+pub returns-else-is_full-clause-told : goal.returns-else-is_full-clause-told
+returns-else-is_full-clause-told c =
+    no_code c.args.i.now c.given.ensures.registers c.given.ensures.fields (λ first second stands. returns-else-is_full-clause-none c (code.Full first second) (refl, stands))
+
+pub returns-in-None-clause-told : goal.returns-in-None-clause-told
+returns-in-None-clause-told c =
+    no_code c.args.i.now c.given.ensures.registers c.given.ensures.fields (λ first second stands. returns-in-None-clause-none c (code.Full first second) (refl, stands))
