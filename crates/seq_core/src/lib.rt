@@ -1,0 +1,10 @@
+//! Sequences that do the work of an instruction, and how many registers they need.
+#![tactic(auto)]
+
+mod classes;
+mod needs;
+mod steps;
+
+pub use classes::{Class, class_of};
+pub use needs::{Need, need_of};
+pub use steps::{Goal, Seq, Step};
