@@ -1,1 +1,4 @@
 pub mod OneClass
+pub mod Decided
+pub mod Covered
+pub mod Few

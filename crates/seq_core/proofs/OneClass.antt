@@ -1,13 +1,12 @@
 -- Each instruction but ADR and IT is of one class and no other.
-use Rattle.std.proofs.Common.{ℕ, ◌≡◌, ◌⊎◌, inl, inr, Bool, true, false, Option, Some, None, refl, sym, ◌∙◌, ap, arith, ◌==◌, ◌&&◌, ◌||◌, not}
+use Rattle.std.proofs.Common.{ℕ, ◌≡◌, ◌⊎◌, inl, inr, Bool, true, false, Option, Some, None, refl, sym, ◌∙◌, arith, ◌&&◌, not}
 use Rattle.std.specs.Prelude.{if◌then◌else◌}
 use Rattle.std.proofs.lemmas.Bool.Decides.{nat_tests}
 use Rattle.std.proofs.lemmas.Bool.{true≢false}
 use Rattle.thumb_instr.specs.declared.instructions.Instr.{Instr}
 use Rattle.thumb_instr.specs.declared.instructions.Instr.TheVariants as instr
-use Rattle.thumb_instr.specs.Operands.{has}
 use Rattle.thumb_instr.specs.Sets.{accumulates, moves_base, moves_pair_base, reads_of, writes_of}
-use Rattle.thumb_instr.specs.Idempotence.{IsIdempotent, KeepsSources, fills_in, is_apart}
+use Rattle.thumb_instr.specs.Idempotence.{IsIdempotent, fills_in, is_apart}
 use Rattle.seq_core.specs.declared.classes.Class.{Class}
 use Rattle.seq_core.specs.declared.classes.Class.TheVariants.{Twice, Through, ThroughFlags, WriteBack, BaseCopy, LongSum, Push, Pop, PopReturn, SpStep, MultiBack, DirectCall, RegisterCall, RegisterJump, ZeroBranch}
 use Rattle.seq_core.specs.Classes.{IsOf, names, has_no_class, steps_stack, loads_own_base, pushes, pops}

@@ -1,5 +1,5 @@
 -- In which of fifteen ways an instruction is replaced.
-use Rattle.std.specs.Prelude.{ℕ, ◌≡◌, ◌==◌, ◌&&◌, ◌||◌, not, Bool, true, false}
+use Rattle.std.specs.Prelude.{◌≡◌, ◌==◌, ◌&&◌, ◌||◌, not, Bool, true, false}
 use Rattle.thumb_instr.specs.declared.operations.AluOp.{AluOp}
 use Rattle.thumb_instr.specs.declared.operations.AluOp.TheVariants as alu
 use Rattle.thumb_instr.specs.declared.instructions.Instr.{Instr}
@@ -121,3 +121,6 @@ has_no_class i = false
 -- Each other instruction is of one class, and of no other.
 abbrev pub ClassesCover : Type 0
 ClassesCover = (i : Instr) → has_no_class i ≡ false → (c : Class) × (IsOf c i × ((d : Class) → IsOf d i → c ≡ d))
+
+abbrev pub ClassesApart : Type 0
+ClassesApart = (i : Instr) (c : Class) → has_no_class i ≡ true → ¬ IsOf c i

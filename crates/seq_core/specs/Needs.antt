@@ -1,10 +1,11 @@
 -- How many scratch registers a sequence needs, and whether it needs the flags.
-use Rattle.std.specs.Prelude.{ℕ, ◌+◌, ◌==◌, Bool, true, false, if◌then◌else◌}
+use Rattle.std.specs.Prelude.{ℕ, ◌+◌, ◌≤◌, ◌==◌, Bool, true, false}
 use Rattle.thumb_instr.specs.declared.instructions.Instr.{Instr}
 use Rattle.thumb_instr.specs.declared.instructions.Instr.TheVariants.{Alu, Move, ShiftBy, Wide, Field, Unary, Mul, MulAcc, LongMul, Div, Access, CallReg}
 use Rattle.thumb_instr.specs.Sets.{reads_of}
 use Rattle.seq_core.specs.declared.classes.Class.{Class}
 use Rattle.seq_core.specs.declared.classes.Class.TheVariants.{Twice, Through, ThroughFlags, WriteBack, BaseCopy, LongSum, Push, Pop, PopReturn, SpStep, MultiBack, DirectCall, RegisterCall, RegisterJump, ZeroBranch}
+use Rattle.seq_core.specs.Classes.{IsOf}
 use Rattle.seq_core.specs.declared.needs.Need.{Need}
 
 abbrev pub one_if : Bool → ℕ
@@ -56,3 +57,10 @@ changes_flags c = false
 
 abbrev pub need_of : Class → Instr → Need
 need_of c i = record { registers = registers_of c i; flags = changes_flags c }
+
+-- Of the registers that an instruction goes through scratch registers for, there are one or two.
+abbrev pub ThroughNeeds : Type 0
+ThroughNeeds = (i : Instr) → IsOf Through i → (1 ≤ registers_of Through i) × (registers_of Through i ≤ 2)
+
+abbrev pub NeedsFit : Type 0
+NeedsFit = (c : Class) (i : Instr) → registers_of c i ≤ 3

@@ -1,8 +1,8 @@
-use Rattle.std.proofs.Common.{◌≡◌, ◌↔◌, true, false, Some, None, refl, sym, ◌∙◌, ap, subst}
+use Rattle.std.proofs.Common.{◌≡◌, ◌↔◌, Some, refl, sym, ◌∙◌, ap, subst}
 use Rattle.std.proofs.lemmas.Bool.{true≢false}
 use Rattle.seq_core.specs.declared.classes.Class.{Class}
 use Rattle.seq_core.specs.declared.classes.Class.TheVariants.{Twice, Through}
-use Rattle.seq_core.specs.Classes.{IsOf, has_no_class, names}
+use Rattle.seq_core.specs.Classes.{IsOf}
 use Rattle.seq_core.proofs.OneClass.{named_is, one_class, others_move, no_class}
 use Rattle.thumb_instr.specs.declared.instructions.Instr.{Instr}
 use Rattle.seq_core.proofs.classes.class_of.Goals as goal
