@@ -1,4 +1,4 @@
-pub mod OneClass
-pub mod Decided
-pub mod Covered
-pub mod Few
+pub mod ClassesApart
+pub mod ClassesDecided
+pub mod ClassesCover
+pub mod NeedsFew

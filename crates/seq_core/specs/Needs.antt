@@ -58,7 +58,7 @@ changes_flags c = false
 abbrev pub need_of : Class → Instr → Need
 need_of c i = record { registers = registers_of c i; flags = changes_flags c }
 
--- Of the registers that an instruction goes through scratch registers for, there are one or two.
+-- What goes through scratch registers reads one destination or two.
 abbrev pub ThroughNeeds : Type 0
 ThroughNeeds = (i : Instr) → IsOf Through i → (1 ≤ registers_of Through i) × (registers_of Through i ≤ 2)
 

@@ -3,7 +3,7 @@ use Rattle.std.proofs.lemmas.Bool.{true≢false}
 use Rattle.seq_core.specs.declared.classes.Class.{Class}
 use Rattle.seq_core.specs.declared.classes.Class.TheVariants.{Twice, Through}
 use Rattle.seq_core.specs.Classes.{IsOf}
-use Rattle.seq_core.proofs.OneClass.{named_is, one_class, others_move, no_class}
+use Rattle.seq_core.proofs.ClassesApart.{named_is, one_class, others_move, no_class}
 use Rattle.thumb_instr.specs.declared.instructions.Instr.{Instr}
 use Rattle.seq_core.proofs.classes.class_of.Goals as goal
 

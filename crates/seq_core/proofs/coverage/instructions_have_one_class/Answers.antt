@@ -1,5 +1,5 @@
-use Rattle.seq_core.proofs.Covered.{classes_cover}
-use Rattle.seq_core.proofs.OneClass.{no_class}
+use Rattle.seq_core.proofs.ClassesCover.{classes_cover}
+use Rattle.seq_core.proofs.ClassesApart.{no_class}
 use Rattle.seq_core.proofs.coverage.instructions_have_one_class.Goals as goal
 
 pub returns-clause-one : goal.returns-clause-one

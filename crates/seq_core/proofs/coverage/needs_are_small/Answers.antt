@@ -1,4 +1,4 @@
-use Rattle.seq_core.proofs.Few.{through_needs, needs_fit}
+use Rattle.seq_core.proofs.NeedsFew.{through_needs, needs_fit}
 use Rattle.seq_core.proofs.coverage.needs_are_small.Goals as goal
 
 pub returns-clause-through : goal.returns-clause-through

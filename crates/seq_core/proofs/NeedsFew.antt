@@ -2,7 +2,7 @@
 use Rattle.std.proofs.Common.{lit≤, ℕ, ◌≡◌, ◌⊎◌, inl, inr, ◌≤◌, ◌+◌, Bool, true, false, refl, sym, ◌∙◌, ap, arith, ◌==◌, ◌||◌}
 use Rattle.std.proofs.lemmas.Bool.Decides.{nat_tests}
 use Rattle.std.proofs.lemmas.Bool.{true≢false, cases_eq}
-use Rattle.seq_core.proofs.Decided.{mixes, no_true, nothing_written}
+use Rattle.seq_core.proofs.ClassesDecided.{mixes, no_true, nothing_written}
 use Rattle.thumb_instr.specs.declared.instructions.Instr.{Instr}
 use Rattle.thumb_instr.specs.declared.instructions.Instr.TheVariants as instr
 use Rattle.thumb_instr.specs.Sets.{moves_base, moves_pair_base, reads_of, writes_of}

@@ -5,8 +5,8 @@ use Rattle.thumb_instr.specs.Idempotence.{fills_in}
 use Rattle.seq_core.specs.declared.classes.Class.{Class}
 use Rattle.seq_core.specs.declared.classes.Class.TheVariants.{Twice, Through, ThroughFlags, WriteBack, BaseCopy, LongSum, Push, Pop, PopReturn, SpStep, MultiBack, DirectCall, RegisterCall, RegisterJump, ZeroBranch}
 use Rattle.seq_core.specs.Classes.{IsOf, ClassesCover, names, has_no_class}
-use Rattle.seq_core.proofs.Decided.{Decided, decided}
-use Rattle.seq_core.proofs.OneClass.{named_is, one_class, unnamed_together}
+use Rattle.seq_core.proofs.ClassesDecided.{Decided, decided}
+use Rattle.seq_core.proofs.ClassesApart.{named_is, one_class, unnamed_together}
 
 abbrev Unnamed : Instr → Type 0
 Unnamed i = (c : Class) → names c i ≡ false
