@@ -2,3 +2,8 @@ pub mod ClassesApart
 pub mod ClassesDecided
 pub mod ClassesCover
 pub mod NeedsFew
+pub mod RowsApart
+pub mod HalvesApart
+pub mod FullsApart
+pub mod DecodesApart
+pub mod StackKept

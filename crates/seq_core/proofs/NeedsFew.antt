@@ -3,10 +3,12 @@ use Rattle.std.proofs.Common.{lit≤, ℕ, ◌≡◌, ◌⊎◌, inl, inr, ◌�
 use Rattle.std.proofs.lemmas.Bool.Decides.{nat_tests}
 use Rattle.std.proofs.lemmas.Bool.{true≢false, cases_eq}
 use Rattle.seq_core.proofs.ClassesDecided.{mixes, no_true, nothing_written}
+use Rattle.thumb_instr.specs.Fields.{MultiFields}
 use Rattle.thumb_instr.specs.declared.instructions.Instr.{Instr}
 use Rattle.thumb_instr.specs.declared.instructions.Instr.TheVariants as instr
 use Rattle.thumb_instr.specs.Sets.{moves_base, moves_pair_base, reads_of, writes_of}
 use Rattle.thumb_instr.specs.Idempotence.{KeepsSources}
+use Rattle.seq_core.specs.declared.classes.Class.{Class}
 use Rattle.seq_core.specs.declared.classes.Class.TheVariants.{Through, WriteBack, BaseCopy, Push, Pop, PopReturn, MultiBack, RegisterCall}
 use Rattle.seq_core.specs.Classes.{IsOf, names, loads_own_base, pushes, pops}
 use Rattle.seq_core.specs.Needs.{one_if, calls_link, read_destinations, ThroughNeeds, NeedsFit}
@@ -63,6 +65,15 @@ reads_either i a b only mixed = go (reads_of i a) (reads_of i b) refl refl
     go false true e f = lit≤ tt
     go false false e f = absurd (mixed (λ k. no_true (mixes i k) (other e f k)))
 
+-- A list of registers that no row names leaves its base where it is.
+pub stays : (i : MultiFields) → ((c : Class) → names c (instr.Multi i) ≡ false) → i.back ≡ false
+stays i h =
+    let no_pc : i.pc ≡ false = h PopReturn in
+    let no_push : pushes (instr.Multi i) ≡ false = h Push in
+    let no_pop : pops (instr.Multi i) ≡ false = h Pop in
+    let no_other : names MultiBack (instr.Multi i) ≡ false = h MultiBack in
+    grind (arith, nat_tests)
+
 reads_some : (i : Instr) → IsOf Through i → 1 ≤ read_destinations i
 unfolding reads_of writes_of
 reads_some (instr.Alu i) h = reads_one (instr.Alu i) i.d (λ k m. grind (arith, nat_tests)) h.0
@@ -79,11 +90,8 @@ reads_some (instr.Access i) h = let stays : moves_base i.place ≡ false = h.2 W
 reads_some (instr.Half i) h = let low : i.top ≡ false = h.1 in absurd (h.0 (λ k. rw low refl))
 reads_some (instr.Pair i) h = let stays : moves_pair_base i.index ≡ false = h.2 WriteBack in let far : loads_own_base (instr.Pair i) ≡ false = h.2 BaseCopy in absurd (h.0 (λ k. no_true (mixes (instr.Pair i) k) (λ m. grind (arith, nat_tests))))
 reads_some (instr.Multi i) h =
+    let still : i.back ≡ false = stays i h.2 in
     let no_pc : i.pc ≡ false = h.2 PopReturn in
-    let no_push : pushes (instr.Multi i) ≡ false = h.2 Push in
-    let no_pop : pops (instr.Multi i) ≡ false = h.2 Pop in
-    let no_other : names MultiBack (instr.Multi i) ≡ false = h.2 MultiBack in
-    let stays : i.back ≡ false = grind (arith, nat_tests) in
     let far : loads_own_base (instr.Multi i) ≡ false = h.2 BaseCopy in
     absurd (h.0 (λ k. no_true (mixes (instr.Multi i) k) (λ m. grind (arith, nat_tests))))
 reads_some (instr.CallReg i) h = absurd (true≢false (h.2 RegisterCall))

@@ -1,3 +1,4 @@
 pub mod Classes
 pub mod Needs
 pub mod Series
+pub mod Accepted

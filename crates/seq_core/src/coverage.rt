@@ -1,6 +1,7 @@
 //! Laws of classes. The functions do nothing: their contracts are the laws.
 
 ghost use Rattle.std.specs.Prelude.{◌≡◌, ◌≤◌, false, true};
+ghost use Rattle.seq_core.specs.Accepted.{DecodesApart, ThroughKeepsStack};
 ghost use Rattle.seq_core.specs.Classes.{ClassesCover, ClassesApart};
 ghost use Rattle.seq_core.specs.Needs.{ThroughNeeds, NeedsFit};
 
@@ -14,4 +15,11 @@ pub fn instructions_have_one_class()
 pub fn needs_are_small()
     ensures through { ThroughNeeds }
     ensures all { NeedsFit }
+{}
+
+/// Whatever halfwords stand for has its base apart and sp where it may stand; so what goes through scratch
+/// registers leaves sp alone.
+pub fn decodes_are_apart()
+    ensures apart { DecodesApart }
+    ensures through { ThroughKeepsStack }
 {}
