@@ -7,3 +7,4 @@ pub mod HalvesApart
 pub mod FullsApart
 pub mod DecodesApart
 pub mod StackKept
+pub mod FlagsKept

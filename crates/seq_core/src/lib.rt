@@ -7,6 +7,8 @@ mod needs;
 mod steps;
 
 pub use classes::{Class, class_of};
-pub use coverage::{decodes_are_apart, instructions_have_one_class, needs_are_small};
+pub use coverage::{
+    decodes_are_apart, decodes_keep_flags, instructions_have_one_class, needs_are_small,
+};
 pub use needs::{Need, need_of};
 pub use steps::{Goal, Seq, Step};
