@@ -5,6 +5,7 @@ mod classes;
 mod coverage;
 mod needs;
 mod steps;
+mod units;
 
 pub use classes::{Class, class_of};
 pub use coverage::{
@@ -12,3 +13,4 @@ pub use coverage::{
 };
 pub use needs::{Need, need_of};
 pub use steps::{Goal, Seq, Step};
+pub use units::{Layout, PlacedUnit, Unit};
