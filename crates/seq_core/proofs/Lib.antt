@@ -1,0 +1,9 @@
+pub mod Tests
+pub mod Lists
+pub mod Values
+pub mod Used
+pub mod Numbers
+pub mod Seen
+pub mod Written
+pub mod Covered
+pub mod Sent

@@ -1,0 +1,28 @@
+//! Laws of instructions. The functions do nothing: their contracts are the laws.
+
+ghost use Rattle.seq_core.specs.Effects.{DependsOnReads, GoesTo, KeepsToWrites, LowGoesTo, WritesAll};
+
+/// An effect depends only on what the instruction reads, on memory and on where it stands.
+pub fn effects_depend_on_reads()
+    ensures { DependsOnReads }
+{}
+
+/// An effect changes only what the instruction writes and may set, memory and where control goes on.
+pub fn effects_keep_to_writes()
+    ensures { KeepsToWrites }
+{}
+
+/// An effect changes all that the instruction writes and sets.
+pub fn effects_write_all()
+    ensures { WritesAll }
+{}
+
+/// An instruction gives the same value and the same flags in another register.
+pub fn results_go_to()
+    ensures { GoesTo }
+{}
+
+/// A long product gives the same low word in another register.
+pub fn low_results_go_to()
+    ensures { LowGoesTo }
+{}
