@@ -7,3 +7,6 @@ pub mod Seen
 pub mod Written
 pub mod Covered
 pub mod Sent
+pub mod Runs
+pub mod Copies
+pub mod Law

@@ -1,3 +1,5 @@
 pub mod Reading
 pub mod Sent
 pub mod Effects
+pub mod Does
+pub mod Sequences

@@ -1,6 +1,7 @@
-//! Laws of instructions. The functions do nothing: their contracts are the laws.
+//! Laws of instructions and of sequences. The functions do nothing: their contracts are the laws.
 
 ghost use Rattle.seq_core.specs.Effects.{DependsOnReads, GoesTo, KeepsToWrites, LowGoesTo, WritesAll};
+ghost use Rattle.seq_core.specs.Sequences.{SchedulesAreLegal, SequencesWork};
 
 /// An effect depends only on what the instruction reads, on memory and on where it stands.
 pub fn effects_depend_on_reads()
@@ -25,4 +26,14 @@ pub fn results_go_to()
 /// A long product gives the same low word in another register.
 pub fn low_results_go_to()
     ensures { LowGoesTo }
+{}
+
+/// Groups that may be done twice, each as often as a schedule is legal for, do their work whatever it skips.
+pub fn sequences_work()
+    ensures { SequencesWork }
+{}
+
+/// A list of skipped steps that is legal is so as a test of steps.
+pub fn schedules_are_legal()
+    ensures { SchedulesAreLegal }
 {}
