@@ -20,10 +20,10 @@ module _ (code : CodeBytes) where
   copy_makes : (e : Effect) (f : Fetched) (a : ℕ) (x : Core) (h : Change) → x.it ≡ 0 → IsCopy code e f a → e x ≡ Ok h → step_of code (Some f) (at a x) ≡ Ok (at (goes_on (a + f.width) h.exit) (applied h x))
   copy_makes e f a x h it s m = makes code f s.instr a x h it s.means (s.effect x ∙ m)
 
-  copy_falls : (e : Effect) (f : Fetched) (a : ℕ) (x y : Core) (h : Change) → x.it ≡ 0 → IsCopy code e f a → e x ≡ Ok h → h.exit ≡ Falls → applied h x ≡ y → Makes code f a x y
+  pub copy_falls : (e : Effect) (f : Fetched) (a : ℕ) (x y : Core) (h : Change) → x.it ≡ 0 → IsCopy code e f a → e x ≡ Ok h → h.exit ≡ Falls → applied h x ≡ y → Makes code f a x y
   copy_falls e f a x y h it s m l k = copy_makes e f a x h it s m ∙ ap (λ t. Ok (at (goes_on (a + f.width) t) (applied h x))) l ∙ ap (λ z. Ok (at (a + f.width) z)) k
 
-  copy_leaps : (e : Effect) (f : Fetched) (a : ℕ) (x : Core) (t : ℕ) (y : Core) → x.it ≡ 0 → IsCopy code e f a → Leads e x t y → Leaps code f a x t y
+  pub copy_leaps : (e : Effect) (f : Fetched) (a : ℕ) (x : Core) (t : ℕ) (y : Core) → x.it ≡ 0 → IsCopy code e f a → Leads e x t y → Leaps code f a x t y
   copy_leaps e f a x t y it s l =
       copy_makes e f a x l.made it s l.makes ∙ ap (λ o. Ok (at (goes_on (a + f.width) o) (applied l.made x))) l.jumps ∙ ap (λ z. Ok (at t z)) l.comes
 
@@ -41,16 +41,26 @@ module _ (code : CodeBytes) where
   leaping zero e p q x t y it l g = tt
   leaping (suc c) e p q x t y it l g = (g.0, g.1.there, copy_leaps e g.0 p x t y it g.1 l, leaping c e (p + g.0.width) q x t y it l g.2)
 
+  -- a copy traps
+  pub traps_at : (e : Effect) (f : Fetched) (a : ℕ) (x : Core) → x.it ≡ 0 → IsCopy code e f a → e x ≡ Err Trap → move code false (at a x) ≡ Err Trap
+  traps_at e f a x it s m =
+      let t : takes_effect x ≡ true = ap (λ k. holds (block_condition k) x) it in
+      ap (λ o. step_of code o (at a x)) s.there
+      ∙ ap (λ k. executed code f (at a x) (decode (place_in_block k) f.first f.second)) it
+      ∙ ap (executed code f (at a x)) s.means
+      ∙ ap (λ b. settled (a + f.width) x (if b then change s.instr (record { code = code; address = a; width = f.width }) x else Ok unchanged)) t
+      ∙ ap (settled (a + f.width) x) (s.effect x ∙ m)
+
   module _ (c : ℕ) (skips : ℕ → Bool) (legal : Legal c skips) where
     settled_comes : (e : Effect) (p q i : ℕ) (x y : Core) → x.it ≡ 0 → Settles e x y → Copies code c e p q → run code skips c i (at p x) ≡ Ok (at q y)
     settled_comes e p q i x y it s g = let l = legal i in group code skips c i p q x y it s.clear (grouped c e p q x y it s g) l.0 l.1 l.2
 
-    pub chain_comes : (es : List Effect) (p q i : ℕ) (x : Core) (out : Exit) (y : Core) → x.it ≡ 0 → Stands code c es p q → Chain es x out y → Comes code skips (steps_of c es) i (at p x) (at (goes_on q out) y)
+    pub chain_comes : (es : List Effect) (p q i : ℕ) (x : Core) (out : Exit) (y : Core) → x.it ≡ 0 → Stands code c es p q → Chain Settles es x out y → Comes code skips (steps_of c es) i (at p x) (at (goes_on q out) y)
     chain_comes [] p q i x out y it s k =
         let same : at p x ≡ at (goes_on q out) y = ap (λ a. at a x) s ∙ ap (λ z. at q z) k.1 ∙ ap (λ o. at (goes_on q o) y) (sym k.0) in
         record { steps = 0; within = omega arith; runs = ap (λ u. Ok u) same }
     chain_comes (e ∷ es) p q i x out y it s k = ⊎_elim
-        (λ (f : (m : Core) × Settles e x m × Chain es m out y).
+        (λ (f : (m : Core) × Settles e x m × Chain Settles es m out y).
         let first : Comes code skips c i (at p x) (at s.0 f.0) = record { steps = c; within = omega arith; runs = settled_comes e p s.0 i x f.0 it f.1 s.1 } in
         comes_on code skips c (steps_of c es) (c + steps_of c es) i (at p x) (at s.0 f.0) (at (goes_on q out) y) refl first (chain_comes es s.0 q (i + c) f.0 out y f.1.clear s.2 f.2))
         (λ (f : (t : ℕ) × Leads e x t y × (out ≡ Jumps t)).
@@ -60,19 +70,10 @@ module _ (code : CodeBytes) where
         record { steps = g.steps; within = omega (arith, g.within); runs = g.runs ∙ ap (λ u. Ok u) to })
         k
 
-    pub reached : (es : List Effect) (p q i : ℕ) (x : Core) (exit : Exit) (y : Core) → x.it ≡ 0 → Stands code c es p q → Reaches q es x exit y → Comes code skips (steps_of c es) i (at p x) (at (goes_on q exit) y)
+    pub reached : (es : List Effect) (p q i : ℕ) (x : Core) (exit : Exit) (y : Core) → x.it ≡ 0 → Stands code c es p q → Reaches Settles q es x exit y → Comes code skips (steps_of c es) i (at p x) (at (goes_on q exit) y)
     reached es p q i x exit y it s r = subst (λ a. Comes code skips (steps_of c es) i (at p x) (at a y)) r.there (chain_comes es p q i x r.out y it s r.chain)
 
     -- a trap among copies
-    traps_at : (e : Effect) (f : Fetched) (a : ℕ) (x : Core) → x.it ≡ 0 → IsCopy code e f a → e x ≡ Err Trap → move code false (at a x) ≡ Err Trap
-    traps_at e f a x it s m =
-        let t : takes_effect x ≡ true = ap (λ k. holds (block_condition k) x) it in
-        ap (λ o. step_of code o (at a x)) s.there
-        ∙ ap (λ k. executed code f (at a x) (decode (place_in_block k) f.first f.second)) it
-        ∙ ap (executed code f (at a x)) s.means
-        ∙ ap (λ b. settled (a + f.width) x (if b then change s.instr (record { code = code; address = a; width = f.width }) x else Ok unchanged)) t
-        ∙ ap (settled (a + f.width) x) (s.effect x ∙ m)
-
     stopped_here : (n i : ℕ) (s : State) → skips i ≡ false → move code false s ≡ Err Trap → StopsAt code skips (suc n) i s
     stopped_here n i s e t =
         let z : i + 0 ≡ i = omega arith in
@@ -105,17 +106,17 @@ module _ (code : CodeBytes) where
           | false ↦ λ now. stopped_here k i (at p x) now (traps_at e g.0 p x it g.1 t)
         ] refl
 
-    pub trapped : (es : List Effect) (p q i : ℕ) (x : Core) → x.it ≡ 0 → Stands code c es p q → Trapped es x → StopsAt code skips (steps_of c es) i (at p x)
+    pub trapped : (es : List Effect) (p q i : ℕ) (x : Core) → x.it ≡ 0 → Stands code c es p q → Trapped Settles es x → StopsAt code skips (steps_of c es) i (at p x)
     trapped [] p q i x it s t = absurd t
     trapped (e ∷ es) p q i x it s t = ⊎_elim
         (λ (f : e x ≡ Err Trap).
         let l = legal i in
         let r = traps_among c e p s.0 i x it f s.1 l.0 l.1 l.2 in
         record { last = r.last; steps = r.steps; before = omega (arith, r.before); runs = r.runs; core = r.core; executed = r.executed; traps = r.traps })
-        (λ (f : Settles e x x × Trapped es x). stopped_later (steps_of c es) c i (at p x) (at s.0 x) (c + steps_of c es) refl (settled_comes e p s.0 i x x it f.0 s.1) refl (trapped es s.0 q (i + c) x it s.2 f.1))
+        (λ (f : Settles e x x × Trapped Settles es x). stopped_later (steps_of c es) c i (at p x) (at s.0 x) (c + steps_of c es) refl (settled_comes e p s.0 i x x it f.0 s.1) refl (trapped es s.0 q (i + c) x it s.2 f.1))
         t
 
-module _ (code : CodeBytes) (c : ℕ) (w : Task) (es : List Effect) (s : Stood code c w es) (skips : ℕ → Bool) (legal : Legal c skips) (clock : ℕ) where
+module _ (code : CodeBytes) (c : ℕ) (w : Task) (es : List Effect) (s : Stood Settles code c w es) (skips : ℕ → Bool) (legal : Legal c skips) (clock : ℕ) where
   shorter : (t u : State) → Comes code skips (steps_of c es) clock t u → Comes code skips w.length clock t u
   shorter t u r = record { steps = r.steps; within = omega (arith, r.within, s.length); runs = r.runs }
 
@@ -132,7 +133,7 @@ module _ (code : CodeBytes) (c : ℕ) (w : Task) (es : List Effect) (s : Stood c
       let r = trapped code c skips legal es w.place w.end clock y b.clear s.stands (s.carries.halts y b t e) in
       record { last = r.last; steps = r.steps; before = omega (arith, r.before, s.length); runs = r.runs; core = r.core; executed = r.executed; traps = r.traps }
 
-pub sequences_work : (code : CodeBytes) (c : ℕ) (t : Task) (groups : List Effect) → Stood code c t groups → Tolerates code c t
+pub sequences_work : (code : CodeBytes) (c : ℕ) (t : Task) (groups : List Effect) → Stood Settles code c t groups → Tolerates code c t
 sequences_work code c t es s skips legal clock = record {
   acts = acting code c t es s skips legal clock;
   rests = resting code c t es s skips legal clock;

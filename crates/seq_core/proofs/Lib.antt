@@ -10,3 +10,4 @@ pub mod Sent
 pub mod Runs
 pub mod Copies
 pub mod Law
+pub mod Once

@@ -52,43 +52,51 @@ pub record Leads (e : Effect) (x : Core) (t : ℕ) (y : Core) : Type 0 where
   pub jumps : made.exit ≡ Jumps t
   pub comes : applied made x ≡ y
 
--- A chain: each group makes the next core and leaves it when done again, up to the end or to a group that jumps.
-abbrev pub Chain : List Effect → Core → Exit → Core → Type 0
-Chain [] x exit y = (exit ≡ Falls) × (x ≡ y)
-Chain (e ∷ es) x exit y = ((m : Core) × Settles e x m × Chain es m exit y) ⊎ ((t : ℕ) × Leads e x t y × (exit ≡ Jumps t))
+-- An effect makes y of x and falls through.
+pub record Moves (e : Effect) (x y : Core) : Type 0 where
+  pub made : Change
+  pub makes : e x ≡ Ok made
+  pub falls : made.exit ≡ Falls
+  pub comes : applied made x ≡ y
+  pub clear : y.it ≡ 0
+
+-- A chain: each group makes the next core, up to the end or to a group that jumps.
+abbrev pub Chain : (Effect → Core → Core → Type 0) → List Effect → Core → Exit → Core → Type 0
+Chain Goes [] x exit y = (exit ≡ Falls) × (x ≡ y)
+Chain Goes (e ∷ es) x exit y = ((m : Core) × Goes e x m × Chain Goes es m exit y) ⊎ ((t : ℕ) × Leads e x t y × (exit ≡ Jumps t))
 
 -- groups that leave the core, up to one that traps
-abbrev pub Trapped : List Effect → Core → Type 0
-Trapped [] x = ⊥
-Trapped (e ∷ es) x = (e x ≡ Err Trap) ⊎ (Settles e x x × Trapped es x)
+abbrev pub Trapped : (Effect → Core → Core → Type 0) → List Effect → Core → Type 0
+Trapped Goes [] x = ⊥
+Trapped Goes (e ∷ es) x = (e x ≡ Err Trap) ⊎ (Goes e x x × Trapped Goes es x)
 
 -- where the groups lead to, and with which core
-pub record Reaches (end : ℕ) (groups : List Effect) (y : Core) (exit : Exit) (z : Core) : Type 0 where
+pub record Reaches (Goes : Effect → Core → Core → Type 0) (end : ℕ) (groups : List Effect) (y : Core) (exit : Exit) (z : Core) : Type 0 where
   pub out : Exit
-  pub chain : Chain groups y out z
+  pub chain : Chain Goes groups y out z
   pub there : goes_on end out ≡ goes_on end exit
 
 -- The groups of a sequence carry an effect out where a test of the core holds, and nothing where it fails. Neither
--- code nor schedules occur here.
-pub record Carries (end : ℕ) (taken : Core → Bool) (effect : Effect) (loses : ℕ → Bool) (groups : List Effect) : Type 0 where
-  pub acts : (y : Core) (h : Change) → Begins y → taken y ≡ true → effect y ≡ Ok h → (z : Core) × Reaches end groups y h.exit z × SameBut loses (applied h y) z
-  pub rests : (y : Core) → Begins y → taken y ≡ false → Reaches end groups y Falls y
-  pub halts : (y : Core) → Begins y → taken y ≡ true → effect y ≡ Err Trap → Trapped groups y
+-- code nor schedules occur here. They carry it by `Settles` where each may be done again, else by `Moves`.
+pub record Carries (Goes : Effect → Core → Core → Type 0) (end : ℕ) (taken : Core → Bool) (effect : Effect) (loses : ℕ → Bool) (groups : List Effect) : Type 0 where
+  pub acts : (y : Core) (h : Change) → Begins y → taken y ≡ true → effect y ≡ Ok h → (z : Core) × Reaches Goes end groups y h.exit z × SameBut loses (applied h y) z
+  pub rests : (y : Core) → Begins y → taken y ≡ false → Reaches Goes end groups y Falls y
+  pub halts : (y : Core) → Begins y → taken y ≡ true → effect y ≡ Err Trap → Trapped Goes groups y
 
 -- They stand in code, each c times, as a task has it, and carry its effect out.
-pub record Stood (code : CodeBytes) (c : ℕ) (t : Task) (groups : List Effect) : Type 0 where
+pub record Stood (Goes : Effect → Core → Core → Type 0) (code : CodeBytes) (c : ℕ) (t : Task) (groups : List Effect) : Type 0 where
   pub stands : Stands code c groups t.place t.end
   pub length : t.length ≡ steps_of c groups
-  pub carries : Carries t.end t.taken t.effect t.loses groups
+  pub carries : Carries Goes t.end t.taken t.effect t.loses groups
 
--- THE LAW OF SEQUENCES: they do their work under every schedule that is legal for as many copies.
+-- THE LAW OF SEQUENCES: groups that may be done again do their work under every schedule that is legal for as many copies.
 abbrev pub SequencesWork : Type 0
-SequencesWork = (code : CodeBytes) (c : ℕ) (t : Task) (groups : List Effect) → Stood code c t groups → Tolerates code c t
+SequencesWork = (code : CodeBytes) (c : ℕ) (t : Task) (groups : List Effect) → Stood Settles code c t groups → Tolerates code c t
 
--- And also, be it of single copies, where none of their steps may be skipped.
+-- Any groups do theirs by one copy of each, where none may be skipped.
 abbrev pub SequencesWorkOnce : Type 0
-SequencesWorkOnce = (code : CodeBytes) (c : ℕ) (may_skip : ℕ → Bool) (t : Task) (groups : List Effect) → 0 < c →
-    ((a : ℕ) → t.place ≤ a → a < t.end → may_skip a ≡ false) → Stood code c t groups → DoesOnce code may_skip t
+SequencesWorkOnce = (code : CodeBytes) (may_skip : ℕ → Bool) (t : Task) (groups : List Effect) →
+    ((a : ℕ) → t.place ≤ a → a < t.end → may_skip a ≡ false) → Stood Moves code 1 t groups → DoesOnce code may_skip t
 
 -- Lists of steps that are legal are so as tests.
 abbrev pub SchedulesAreLegal : Type 0

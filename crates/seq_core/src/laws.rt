@@ -1,7 +1,7 @@
 //! Laws of instructions and of sequences. The functions do nothing: their contracts are the laws.
 
 ghost use Rattle.seq_core.specs.Effects.{DependsOnReads, GoesTo, KeepsToWrites, LowGoesTo, WritesAll};
-ghost use Rattle.seq_core.specs.Sequences.{SchedulesAreLegal, SequencesWork};
+ghost use Rattle.seq_core.specs.Sequences.{SchedulesAreLegal, SequencesWork, SequencesWorkOnce};
 
 /// An effect depends only on what the instruction reads, on memory and on where it stands.
 pub fn effects_depend_on_reads()
@@ -31,6 +31,11 @@ pub fn low_results_go_to()
 /// Groups that may be done twice, each as often as a schedule is legal for, do their work whatever it skips.
 pub fn sequences_work()
     ensures { SequencesWork }
+{}
+
+/// Groups of one copy each do their work where nothing is skipped.
+pub fn sequences_work_once()
+    ensures { SequencesWorkOnce }
 {}
 
 /// A list of skipped steps that is legal is so as a test of steps.

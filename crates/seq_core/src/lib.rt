@@ -3,4 +3,7 @@
 
 mod laws;
 
-pub use laws::{effects_depend_on_reads, effects_keep_to_writes, effects_write_all, low_results_go_to, results_go_to, schedules_are_legal, sequences_work};
+pub use laws::{
+    effects_depend_on_reads, effects_keep_to_writes, effects_write_all, low_results_go_to,
+    results_go_to, schedules_are_legal, sequences_work, sequences_work_once,
+};
