@@ -11,3 +11,15 @@ pub mod Runs
 pub mod Copies
 pub mod Law
 pub mod Once
+pub mod Again
+pub mod Meaning
+pub mod Twice
+pub mod Near
+pub mod Through
+pub mod Guard
+pub mod Placing
+pub mod Base
+pub mod Halves
+pub mod Fields
+pub mod Calls
+pub mod Products

@@ -3,3 +3,11 @@ pub mod Sent
 pub mod Effects
 pub mod Does
 pub mod Sequences
+pub mod Meanings
+pub mod Apart
+pub mod Groups
+pub mod Guards
+pub mod Twice
+pub mod Through
+pub mod Bases
+pub mod Calls
