@@ -23,3 +23,8 @@ pub mod Halves
 pub mod Fields
 pub mod Calls
 pub mod Products
+pub mod Back
+pub mod Pairs
+pub mod Copied
+pub mod Stacks
+pub mod Returns

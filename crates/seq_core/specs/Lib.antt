@@ -11,3 +11,4 @@ pub mod Twice
 pub mod Through
 pub mod Bases
 pub mod Calls
+pub mod Stacks

@@ -3,6 +3,7 @@
 
 mod class_laws;
 mod laws;
+mod moving_laws;
 
 pub use class_laws::{
     branches_in_place, clears_in_place, conditions_work, copies_at_places, guards_work,
@@ -14,4 +15,10 @@ pub use class_laws::{
 pub use laws::{
     effects_depend_on_reads, effects_keep_to_writes, effects_write_all, low_results_go_to,
     results_go_to, schedules_are_legal, sequences_work, sequences_work_once,
+};
+pub use moving_laws::{
+    base_copies_of_lists_work, base_copies_of_one_work, base_copies_of_pairs_work,
+    direct_calls_work, flagged_products_work, link_calls_work, lists_downwards_work,
+    lists_upwards_work, pops_into_pc_work, post_accesses_work, post_pairs_work, pre_accesses_work,
+    pre_pairs_work, register_calls_work, register_jumps_work, zero_branches_work,
 };
