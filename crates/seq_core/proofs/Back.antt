@@ -20,7 +20,8 @@ use Rattle.seq_core.proofs.Tests.{here}
 use Rattle.seq_core.proofs.Written.{upright_is}
 use Rattle.seq_core.proofs.Sent.{even_of}
 use Rattle.seq_core.proofs.Seen.{accessed_same}
-use Rattle.seq_core.proofs.Meaning.{accessed_quiet, change_never_traps}
+use Rattle.seq_core.proofs.Meaning.{change_never_traps}
+use Rattle.seq_core.proofs.Quiet.{accessed_quiet}
 use Rattle.seq_core.proofs.Near.{read_set}
 use Rattle.seq_core.proofs.Base.{even_done, base_first, base_behind, Done, with_base}
 

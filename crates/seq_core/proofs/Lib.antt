@@ -6,6 +6,7 @@ pub mod Numbers
 pub mod Seen
 pub mod Written
 pub mod Covered
+pub mod Quiet
 pub mod Sent
 pub mod Runs
 pub mod Copies

@@ -1,5 +1,5 @@
 -- What is meant by an instruction: it depends on what is read, and changes what may be written.
-use Rattle.std.proofs.Common.{◌≡◌, ℕ, ◌+◌, ◌-◌, ◌*◌, ◌%◌, Bool, true, false, List, [], ◌∷◌, ◌++◌, length, None, Ok, Err, refl, ap, ◌∙◌, subst}
+use Rattle.std.proofs.Common.{◌≡◌, ℕ, ◌+◌, ◌-◌, ◌*◌, ◌%◌, Bool, true, false, List, [], ◌∷◌, ◌++◌, length, Ok, Err, refl, ap, ◌∙◌}
 use Rattle.std.specs.Prelude.{◌==◌, not, if◌then◌else◌}
 use Rattle.std.specs.List.{list_any}
 use Rattle.mark_word.specs.Words.{Word}
@@ -17,15 +17,16 @@ use Rattle.thumb_table.specs.declared.faults.FaultKind.TheVariants.{BadAddress, 
 use Rattle.thumb_table.specs.declared.faults.FaultKind.TheVariants as fault
 use Rattle.mark_word.specs.Marks.{pieces}
 use Rattle.thumb_table.specs.Parts.{Memory}
-use Rattle.thumb_table.specs.States.{Core, read, Change, Outcome, Falls, Jumps, Site, is_askew, unchanged, upright}
+use Rattle.thumb_table.specs.States.{Core, read, Change, Outcome, Jumps, Site, is_askew, unchanged, upright}
 use Rattle.thumb_table.specs.Values.{Computed}
 use Rattle.thumb_table.specs.Effects.{change, value, with_flags, with_sign, writing, accessed, after_base, base_write, transferred, base_moved, on_words, and_next, jump_if, jump_to, lies_in, registers, lowest, bytes_of, address_of, size_of, pair_place, word_at, two_words, link, from, stored}
 use Rattle.seq_core.specs.Meanings.{Ends, meant, nowhere}
-use Rattle.seq_core.specs.Reading.{SameReads, IsWithin}
-use Rattle.seq_core.specs.Apart.{goes_on_always, stores}
+use Rattle.seq_core.specs.Reading.{SameReads, IsWithin, stores}
+use Rattle.seq_core.specs.Apart.{goes_on_always}
 use Rattle.seq_core.proofs.Tests.{same_number, ap₃}
 use Rattle.seq_core.proofs.Seen.{depends}
-use Rattle.seq_core.proofs.Written.{writes, one_within, upright_is, passed, words_passed, ok_is}
+use Rattle.seq_core.proofs.Written.{writes, one_within}
+use Rattle.seq_core.proofs.Quiet.{Quiet, one_quiet, change_quiet}
 
 pub meant_depends : (i : Instr) (e : Ends) (x y : Core) → goes_on_always i ≡ true → SameReads i x y → meant i e x ≡ meant i e y
 unfolding meant
@@ -83,74 +84,26 @@ meant_within (CallReg i) e x h g m = absurd cc
 meant_within (It i) e x h g m = absurd cc
 meant_within (Trap i) e x h g m = absurd cc
 
--- control falls through, the IT state is not set, and memory stays but for stores
-pub record Quiet (storing : Bool) (h : Change) : Type 0 where
-  pub falls : h.exit ≡ Falls
-  pub it : h.it ≡ None
-  pub cells : storing ≡ false → h.cells ≡ []
-
-quiet_upright : (b : Bool) (g h : Change) → Quiet b g → upright g ≡ Ok h → Quiet b h
-quiet_upright b g h q e = subst (Quiet b) (upright_is g h e) q
-
-flags_quiet : (s : Bool) (r : Computed) (regs : List (ℕ × Word)) → Quiet false (with_flags s r (writing regs))
-flags_quiet true r regs = record { falls = refl; it = refl; cells = λ b. refl }
-flags_quiet false r regs = record { falls = refl; it = refl; cells = λ b. refl }
-
-sign_quiet : (s : Bool) (n : ℕ) (regs : List (ℕ × Word)) → Quiet false (with_sign s n (writing regs))
-sign_quiet true n regs = record { falls = refl; it = refl; cells = λ b. refl }
-sign_quiet false n regs = record { falls = refl; it = refl; cells = λ b. refl }
-
-pub writing_quiet : (regs : List (ℕ × Word)) → Quiet false (writing regs)
-writing_quiet regs = record { falls = refl; it = refl; cells = λ b. refl }
-
-one_quiet : (d : ℕ) (w : Word) (h : Change) → upright (writing ((d, w) ∷ [])) ≡ Ok h → Quiet false h
-one_quiet d w h e = quiet_upright false (writing ((d, w) ∷ [])) h (writing_quiet ((d, w) ∷ [])) e
-
-pub accessed_quiet : (op : AccessOp) (t a : ℕ) (x : Core) (b : List (ℕ × Word)) → Quiet (is_store op) (after_base b (accessed op t a x))
-accessed_quiet Ldr t a x b = record { falls = refl; it = refl; cells = λ b. refl }
-accessed_quiet Ldrb t a x b = record { falls = refl; it = refl; cells = λ b. refl }
-accessed_quiet Ldrh t a x b = record { falls = refl; it = refl; cells = λ b. refl }
-accessed_quiet Ldrsb t a x b = record { falls = refl; it = refl; cells = λ b. refl }
-accessed_quiet Ldrsh t a x b = record { falls = refl; it = refl; cells = λ b. refl }
-accessed_quiet Str t a x b = record { falls = refl; it = refl; cells = λ b. absurd cc }
-accessed_quiet Strb t a x b = record { falls = refl; it = refl; cells = λ b. absurd cc }
-accessed_quiet Strh t a x b = record { falls = refl; it = refl; cells = λ b. absurd cc }
-
-pub transferred_quiet : (load : Bool) (a : ℕ) (rs : List ℕ) (x : Core) (b : List (ℕ × Word)) → Quiet (not load) (after_base b (transferred load a rs x))
-transferred_quiet true a rs x b = record { falls = refl; it = refl; cells = λ b. refl }
-transferred_quiet false a rs x b = record { falls = refl; it = refl; cells = λ b. absurd cc }
-
--- without pc a list is loaded or stored, and that is all
-pub not_jumped : (pc : Bool) (bits : ℕ) (o : Outcome) (h : Change) → not pc ≡ true → and_next o (λ g. jump_if pc bits g) ≡ Ok h → o ≡ Ok h
-not_jumped true bits o h p e = absurd cc
-not_jumped false bits (Ok g) h p e = e
-not_jumped false bits (Err k) h p e = absurd cc
-
 pub meant_quiet : (i : Instr) (e : Ends) (x : Core) (h : Change) → goes_on_always i ≡ true → meant i e x ≡ Ok h → Quiet (stores i) h
-unfolding meant change
-meant_quiet (Alu i) e x h g m = quiet_upright false _ h (flags_quiet i.s _ _) m
-meant_quiet (Move i) e x h g m = quiet_upright false _ h (flags_quiet i.s _ _) m
-meant_quiet (Test i) e x h g m = subst (Quiet false) (ok_is _ h _ refl m) (flags_quiet true _ [])
-meant_quiet (ShiftBy i) e x h g m = quiet_upright false _ h (flags_quiet i.s _ _) m
-meant_quiet (Wide i) e x h g m = one_quiet i.d _ h m
-meant_quiet (Half i) e x h g m = one_quiet i.d _ h m
-meant_quiet (Field i) e x h g m = one_quiet i.d _ h m
-meant_quiet (Unary i) e x h g m = one_quiet i.d _ h m
-meant_quiet (Mul i) e x h g m = quiet_upright false _ h (sign_quiet i.s _ _) m
-meant_quiet (MulAcc i) e x h g m = one_quiet i.d _ h m
-meant_quiet (LongMul i) e x h g m = quiet_upright false (two_words i.lo i.hi _) h (writing_quiet _) m
-meant_quiet (Div i) e x h g m = one_quiet i.d _ h m
-meant_quiet (Access i) e x h g m = quiet_upright (is_store i.op) _ h (accessed_quiet i.op i.t (address_of i.n i.place x) x (base_write i.n i.place x)) (passed _ _ _ h m)
-meant_quiet (Pair i) e x h g m =
-    let p = pair_place i.index i.up i.imm in
-    quiet_upright (not i.load) _ h (transferred_quiet i.load (address_of i.n p x) (i.t ∷ i.u ∷ []) x (base_write i.n p x)) (words_passed x.memory _ _ _ h m)
-meant_quiet (Multi i) e x h g m =
-    let bytes = bytes_of i.list.0 i.pc in
-    quiet_upright (not i.load) _ h (transferred_quiet i.load (lowest i.down (value x i.n) bytes) (registers i.list.0) x (base_moved i.back i.down i.n (value x i.n) bytes))
-    (not_jumped i.pc _ _ h g (words_passed x.memory _ _ _ h m))
-meant_quiet (Literal i) e x h g m = one_quiet i.t _ h m
-meant_quiet (Adr i) e x h g m = one_quiet i.d _ h m
-meant_quiet (Nothing i) e x h g m = subst (Quiet false) (ok_is unchanged h _ refl m) (writing_quiet [])
+unfolding meant
+meant_quiet (Alu i) e x h g m = change_quiet (Alu i) nowhere x h g m
+meant_quiet (Move i) e x h g m = change_quiet (Move i) nowhere x h g m
+meant_quiet (Test i) e x h g m = change_quiet (Test i) nowhere x h g m
+meant_quiet (ShiftBy i) e x h g m = change_quiet (ShiftBy i) nowhere x h g m
+meant_quiet (Wide i) e x h g m = change_quiet (Wide i) nowhere x h g m
+meant_quiet (Half i) e x h g m = change_quiet (Half i) nowhere x h g m
+meant_quiet (Field i) e x h g m = change_quiet (Field i) nowhere x h g m
+meant_quiet (Unary i) e x h g m = change_quiet (Unary i) nowhere x h g m
+meant_quiet (Mul i) e x h g m = change_quiet (Mul i) nowhere x h g m
+meant_quiet (MulAcc i) e x h g m = change_quiet (MulAcc i) nowhere x h g m
+meant_quiet (LongMul i) e x h g m = change_quiet (LongMul i) nowhere x h g m
+meant_quiet (Div i) e x h g m = change_quiet (Div i) nowhere x h g m
+meant_quiet (Access i) e x h g m = change_quiet (Access i) nowhere x h g m
+meant_quiet (Pair i) e x h g m = change_quiet (Pair i) nowhere x h g m
+meant_quiet (Multi i) e x h g m = change_quiet (Multi i) nowhere x h g m
+meant_quiet (Literal i) e x h g m = one_quiet i.t e.word h m
+meant_quiet (Adr i) e x h g m = change_quiet (Adr i) nowhere x h g m
+meant_quiet (Nothing i) e x h g m = change_quiet (Nothing i) nowhere x h g m
 meant_quiet (Branch i) e x h g m = absurd cc
 meant_quiet (ZeroBranch i) e x h g m = absurd cc
 meant_quiet (Call i) e x h g m = absurd cc

@@ -21,7 +21,8 @@ use Rattle.seq_core.proofs.Tests.{here}
 use Rattle.seq_core.proofs.Written.{upright_is}
 use Rattle.seq_core.proofs.Sent.{even_of}
 use Rattle.seq_core.proofs.Seen.{transferred_same}
-use Rattle.seq_core.proofs.Meaning.{transferred_quiet, change_never_traps}
+use Rattle.seq_core.proofs.Meaning.{change_never_traps}
+use Rattle.seq_core.proofs.Quiet.{transferred_quiet}
 use Rattle.seq_core.proofs.Near.{read_set}
 use Rattle.seq_core.proofs.Base.{even_done, base_first, base_behind, Done, with_base}
 use Rattle.seq_core.proofs.Back.{alone, others_even, moved_small, stays_small, nothing_added}

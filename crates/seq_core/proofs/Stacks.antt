@@ -22,7 +22,8 @@ use Rattle.seq_core.specs.Stacks.{multi_at, transfer_at, moving_list, IsOutside,
 use Rattle.seq_core.proofs.Tests.{here}
 use Rattle.seq_core.proofs.Lists.{Each, each_has, each_map}
 use Rattle.seq_core.proofs.Seen.{transferred_same}
-use Rattle.seq_core.proofs.Meaning.{transferred_quiet, change_never_traps}
+use Rattle.seq_core.proofs.Meaning.{change_never_traps}
+use Rattle.seq_core.proofs.Quiet.{transferred_quiet}
 use Rattle.seq_core.proofs.Near.{read_set}
 use Rattle.seq_core.proofs.Base.{even_done, base_first, base_behind, Done, with_base}
 use Rattle.seq_core.proofs.Back.{alone, others_even, moved_small, stays_small, access_step, access_apart, access_unread, access_reads}

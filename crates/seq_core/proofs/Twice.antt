@@ -7,8 +7,8 @@ use Rattle.thumb_table.specs.States.{Core, Change, Falls, applied, or_old, store
 use Rattle.thumb_table.specs.Steps.{goes_on}
 use Rattle.seq_core.specs.Does.{SameBut, Effect}
 use Rattle.seq_core.specs.Meanings.{Ends, meant}
-use Rattle.seq_core.specs.Reading.{SameReads, IsWithin}
-use Rattle.seq_core.specs.Apart.{goes_on_always, stores, IsApart}
+use Rattle.seq_core.specs.Reading.{SameReads, IsWithin, stores}
+use Rattle.seq_core.specs.Apart.{goes_on_always, IsApart}
 use Rattle.seq_core.specs.Sequences.{Settles}
 use Rattle.seq_core.specs.Groups.{nothing}
 use Rattle.seq_core.specs.Twice.{TwiceCarries}

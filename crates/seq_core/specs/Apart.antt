@@ -1,8 +1,8 @@
 -- What the classes of sequences ask of an instruction.
 use Rattle.std.specs.Prelude.{◌≡◌, ℕ, not, Bool, true, false}
 use Rattle.thumb_instr.specs.declared.instructions.Instr.{Instr}
-use Rattle.thumb_instr.specs.declared.instructions.Instr.TheVariants.{Access, Pair, Multi, Branch, ZeroBranch, Call, Jump, CallReg, It, Trap}
-use Rattle.thumb_instr.specs.Sets.{reads_of, writes_of, is_store}
+use Rattle.thumb_instr.specs.declared.instructions.Instr.TheVariants.{Multi, Branch, ZeroBranch, Call, Jump, CallReg, It, Trap}
+use Rattle.thumb_instr.specs.Sets.{reads_of, writes_of}
 use Rattle.thumb_instr.specs.MaySet.{may_set_of}
 use Rattle.seq_core.specs.Reading.{uses_of}
 
@@ -17,12 +17,6 @@ goes_on_always (It i) = false
 goes_on_always (Trap i) = false
 goes_on_always (Multi i) = not i.pc
 goes_on_always i = true
-
-abbrev pub stores : Instr → Bool
-stores (Access i) = is_store i.op
-stores (Pair i) = not i.load
-stores (Multi i) = not i.load
-stores i = false
 
 -- What it reads it doesn't write.
 pub record IsApart (i : Instr) : Type 0 where

@@ -7,7 +7,7 @@ use Rattle.thumb_instr.specs.Formed.{IsFormed}
 use Rattle.thumb_instr.specs.Sets.{accumulates}
 use Rattle.thumb_table.specs.States.{Core, Site, Change}
 use Rattle.thumb_table.specs.Effects.{change}
-use Rattle.seq_core.specs.Reading.{SameReads, IsWithin, Covers}
+use Rattle.seq_core.specs.Reading.{SameReads, IsWithin, IsQuiet, Covers}
 use Rattle.seq_core.specs.Sent.{destination, sent, redirected, low_redirected}
 
 -- An effect depends only on what the instruction reads, on memory, and on where it stands.
@@ -17,6 +17,10 @@ DependsOnReads = (i : Instr) (s : Site) (x y : Core) → SameReads i x y → cha
 -- Of registers and flags it changes only what the instruction writes and may set.
 abbrev pub KeepsToWrites : Type 0
 KeepsToWrites = (i : Instr) (s : Site) (x : Core) (h : Change) → change i s x ≡ Ok h → IsWithin i h
+
+-- Beside them it changes memory only by a store, and the IT state only by IT.
+abbrev pub StaysQuiet : Type 0
+StaysQuiet = (i : Instr) (s : Site) (x : Core) (h : Change) → change i s x ≡ Ok h → IsQuiet i h
 
 -- Where it takes effect it changes each register that the instruction writes, and each flag that it sets.
 abbrev pub WritesAll : Type 0

@@ -49,7 +49,7 @@ SpSumCarries = (d q end : ℕ) → q < 13 → d < 15 → d ≢ q → Carries Set
 abbrev pub InsertSelfCarries : Type 0
 InsertSelfCarries = (d q lsb width end : ℕ) → d < 15 → d ≢ 13 → q < 13 → d ≢ q → Carries Settles end always (done (inserting d d lsb width)) (only q) (done (moving false q d) ∷ done (inserting d q lsb width) ∷ [])
 
--- CLASS LONGSUM
+-- SMULL and UMULL
 abbrev pub product_of : Bool → LongMulOp
 product_of true = Smull
 product_of false = Umull

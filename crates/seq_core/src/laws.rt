@@ -1,6 +1,6 @@
 //! Laws of instructions and of sequences. The functions do nothing: their contracts are the laws.
 
-ghost use Rattle.seq_core.specs.Effects.{DependsOnReads, GoesTo, KeepsToWrites, LowGoesTo, WritesAll};
+ghost use Rattle.seq_core.specs.Effects.{DependsOnReads, GoesTo, KeepsToWrites, LowGoesTo, StaysQuiet, WritesAll};
 ghost use Rattle.seq_core.specs.Sequences.{SchedulesAreLegal, SequencesWork, SequencesWorkOnce};
 
 /// An effect depends only on what the instruction reads, on memory and on where it stands.
@@ -8,9 +8,14 @@ pub fn effects_depend_on_reads()
     ensures { DependsOnReads }
 {}
 
-/// An effect changes only what the instruction writes and may set, memory and where control goes on.
+/// Of registers and flags an effect changes only what the instruction writes and may set.
 pub fn effects_keep_to_writes()
     ensures { KeepsToWrites }
+{}
+
+/// Memory changes only by stores, the IT state only by IT, and control goes on unless it jumps.
+pub fn effects_stay_quiet()
+    ensures { StaysQuiet }
 {}
 
 /// An effect changes all that the instruction writes and sets.

@@ -13,8 +13,8 @@ pub use class_laws::{
     twice_in_place,
 };
 pub use laws::{
-    effects_depend_on_reads, effects_keep_to_writes, effects_write_all, low_results_go_to,
-    results_go_to, schedules_are_legal, sequences_work, sequences_work_once,
+    effects_depend_on_reads, effects_keep_to_writes, effects_stay_quiet, effects_write_all,
+    low_results_go_to, results_go_to, schedules_are_legal, sequences_work, sequences_work_once,
 };
 pub use moving_laws::{
     base_copies_of_lists_work, base_copies_of_one_work, base_copies_of_pairs_work,
