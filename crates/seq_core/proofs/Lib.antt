@@ -29,3 +29,4 @@ pub mod Pairs
 pub mod Copied
 pub mod Stacks
 pub mod Returns
+pub mod InPlace

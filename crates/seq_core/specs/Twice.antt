@@ -1,5 +1,5 @@
 -- What is done twice in place.
-use Rattle.std.specs.Prelude.{◌≡◌, ◌≢◌, ◌<◌, ℕ, Bool, true, [], ◌∷◌, Some, None}
+use Rattle.std.specs.Prelude.{◌&&◌, false, ◌≡◌, ◌≢◌, ◌<◌, ℕ, Bool, true, [], ◌∷◌, Some, None}
 use Rattle.mark_word.specs.declared.marks.Mark.{Mark}
 use Rattle.thumb_instr.specs.declared.conditions.Cond.{Cond}
 use Rattle.thumb_instr.specs.declared.operations.FieldOp.TheVariants.{Bfi, Bfc}
@@ -10,6 +10,10 @@ use Rattle.seq_core.specs.Meanings.{Ends, meant}
 use Rattle.seq_core.specs.Apart.{goes_on_always, IsApart}
 use Rattle.seq_core.specs.Sequences.{Carries, Settles}
 use Rattle.seq_core.specs.Groups.{always, done, nothing, branch_to, trap, half_by}
+use Rattle.thumb_instr.specs.declared.conditions.Cond.TheVariants.{Al}
+use Rattle.thumb_instr.specs.Formed.{IsFormed}
+use Rattle.thumb_instr.specs.Idempotence.{IsIdempotent, fills_in}
+use Rattle.thumb_instr.specs.Sets.{reads_of, writes_of, sets_flags_of}
 
 -- CLASS TWICE
 abbrev pub TwiceCarries : Type 0
@@ -38,3 +42,20 @@ ClearCarries = (d lsb width end : ℕ) → d < 15 → d ≢ 13 → Carries Settl
 
 abbrev pub InsertCarries : Type 0
 InsertCarries = (d n lsb width end : ℕ) → d < 15 → d ≢ 13 → n ≢ d → Carries Settles end always (done (inserting d n lsb width)) nothing (done (inserting d n lsb width) ∷ [])
+
+-- the condition of a branch itself
+abbrev pub own_condition : Instr → Cond
+own_condition (instr.Branch i) = i.cond
+own_condition i = Al
+
+-- An instruction that may be executed twice in a row for once: it is formed, sets no carry that it reads, and fills no
+-- bits of sp.
+pub record StaysInPlace (i : Instr) : Type 0 where
+  pub formed : IsFormed i
+  pub idempotent : IsIdempotent i
+  pub carry : (reads_of i 18 && sets_flags_of i 18) ≡ false
+  pub stack : fills_in i ≡ true → writes_of i 13 ≡ false
+
+-- CLASS TWICE, all of it
+abbrev pub IdempotentCarries : Type 0
+IdempotentCarries = (i : Instr) (e : Ends) (end : ℕ) → StaysInPlace i → Carries Settles end (λ y. holds (own_condition i) y) (meant i e) nothing (meant i e ∷ [])

@@ -4,7 +4,7 @@ ghost use Rattle.seq_core.specs.Groups.{HalfPlaced, LiteralPlaced, Placed};
 ghost use Rattle.seq_core.specs.Guards.{ConditionCarries, GuardCarries};
 ghost use Rattle.seq_core.specs.Sequences.{Moves, Settles};
 ghost use Rattle.seq_core.specs.Through.{HighProductCarries, InsertSelfCarries, LongProductCarries, LowProductCarries, SpSumCarries, ThroughCarries};
-ghost use Rattle.seq_core.specs.Twice.{BranchCarries, ClearCarries, HalfCarries, InsertCarries, TrapCarries, TwiceCarries};
+ghost use Rattle.seq_core.specs.Twice.{BranchCarries, ClearCarries, HalfCarries, IdempotentCarries, InsertCarries, TrapCarries, TwiceCarries};
 
 /// An instruction that writes nothing that it reads does its own work, as often as it stands.
 pub fn twice_in_place()
@@ -34,6 +34,11 @@ pub fn clears_in_place()
 /// So does BFI from another register.
 pub fn inserts_in_place()
     ensures { InsertCarries }
+{}
+
+/// In all, what may be executed twice in a row for once stays as it is.
+pub fn idempotent_in_place()
+    ensures { IdempotentCarries }
 {}
 
 /// A branch on the inverse condition makes of a sequence one under a condition.
