@@ -30,3 +30,4 @@ pub mod Copied
 pub mod Stacks
 pub mod Returns
 pub mod InPlace
+pub mod Sums

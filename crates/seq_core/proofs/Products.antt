@@ -25,16 +25,16 @@ use Rattle.seq_core.proofs.Through.{moving_apart, move_other}
 use Rattle.seq_core.proofs.Base.{even_done}
 
 -- the product, before it is added
-product : Bool → Core → ℕ → ℕ → ℕ
+unfoldable pub product : Bool → Core → ℕ → ℕ → ℕ
 product is_signed y n m = long_product (product_of is_signed) (value y n) (value y m) 0
 
 two_even : (a b p : ℕ) → a ≢ 13 → b ≢ 13 → list_any is_askew (two_words a b p).regs ≡ false
 two_even a b p la lb = let e : (a == 13) ≡ false = ne_eqb a 13 la in let f : (b == 13) ≡ false = ne_eqb b 13 lb in rw (e, f) refl
 
-below_sp : (a : ℕ) → a < 13 → a ≢ 13
+pub below_sp : (a : ℕ) → a < 13 → a ≢ 13
 below_sp a lt e = omega arith
 
-product_done : (is_signed : Bool) (a b n m : ℕ) (y : Core) → a ≢ 13 → b ≢ 13 → done (long_product_to (product_of is_signed) a b n m) y ≡ Ok (two_words a b (product is_signed y n m))
+pub product_done : (is_signed : Bool) (a b n m : ℕ) (y : Core) → a ≢ 13 → b ≢ 13 → done (long_product_to (product_of is_signed) a b n m) y ≡ Ok (two_words a b (product is_signed y n m))
 unfolding meant change product
 product_done true a b n m y la lb = even_done (two_words a b (long_product (product_of true) (value y n) (value y m) 0)) (two_even a b (long_product (product_of true) (value y n) (value y m) 0) la lb)
 product_done false a b n m y la lb = even_done (two_words a b (long_product (product_of false) (value y n) (value y m) 0)) (two_even a b (long_product (product_of false) (value y n) (value y m) 0) la lb)
@@ -50,15 +50,15 @@ apart_of a b n m k na ma nb mb e = none (k == n) (k == m) (λ s. both n (eqb-tru
     none false true f g e = g refl
     none false false f g e = absurd cc
 
-product_apart : (is_signed : Bool) (a b n m : ℕ) → n ≢ a → m ≢ a → n ≢ b → m ≢ b → IsApart (long_product_to (product_of is_signed) a b n m)
+pub product_apart : (is_signed : Bool) (a b n m : ℕ) → n ≢ a → m ≢ a → n ≢ b → m ≢ b → IsApart (long_product_to (product_of is_signed) a b n m)
 unfolding reads_of writes_of sets_flags_of
 product_apart true a b n m na ma nb mb = record { regs = λ k e. apart_of a b n m k na ma nb mb e; flags = λ k e. refl }
 product_apart false a b n m na ma nb mb = record { regs = λ k e. apart_of a b n m k na ma nb mb e; flags = λ k e. refl }
 
-not_same : (k a : ℕ) → (k == a) ≡ false → k ≢ a
+pub not_same : (k a : ℕ) → (k == a) ≡ false → k ≢ a
 not_same k a e s = let t : (k == a) ≡ true = ap (λ r. k == r) (sym s) ∙ same_number k in absurd cc
 
-other : (y : Core) (k d : ℕ) (w : Word) → k ≢ d → value (applied (writing ((d, w) ∷ [])) y) k ≡ value y k
+pub other : (y : Core) (k d : ℕ) (w : Word) → k ≢ d → value (applied (writing ((d, w) ∷ [])) y) k ≡ value y k
 other y k d w ne = ap (λ v. v.bits) (get_or-set_other y.regs d k w (plain 0) ne)
 
 -- CLASS THROUGH, of long products that read both destinations

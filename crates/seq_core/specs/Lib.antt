@@ -12,3 +12,4 @@ pub mod Through
 pub mod Bases
 pub mod Calls
 pub mod Stacks
+pub mod Sums

@@ -19,6 +19,7 @@ pub use laws::{
 pub use moving_laws::{
     base_copies_of_lists_work, base_copies_of_one_work, base_copies_of_pairs_work,
     direct_calls_work, flagged_products_work, link_calls_work, lists_downwards_work,
-    lists_upwards_work, pops_into_pc_work, post_accesses_work, post_pairs_work, pre_accesses_work,
-    pre_pairs_work, register_calls_work, register_jumps_work, zero_branches_work,
+    lists_upwards_work, long_sums_work, pops_into_pc_work, post_accesses_work, post_pairs_work,
+    pre_accesses_work, pre_pairs_work, register_calls_work, register_jumps_work,
+    zero_branches_work,
 };

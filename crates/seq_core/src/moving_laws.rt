@@ -1,8 +1,9 @@
-//! Laws of the classes of sequences that move bases, stacks and control. The functions do nothing: their contracts are the laws.
+//! Laws of the classes of sequences that move bases, stacks and control, and of long sums. The functions do nothing: their contracts are the laws.
 
 ghost use Rattle.seq_core.specs.Bases.{BaseCopyListCarries, BaseCopyOneCarries, BaseCopyPairCarries, FlaggedProductCarries, PostAccessCarries, PostPairCarries, PreAccessCarries, PrePairCarries};
 ghost use Rattle.seq_core.specs.Calls.{DirectCallCarries, LinkCallCarries, RegisterCallCarries, RegisterJumpCarries, ZeroBranchCarries};
 ghost use Rattle.seq_core.specs.Stacks.{DownCarries, PopReturnCarries, UpCarries};
+ghost use Rattle.seq_core.specs.Sums.{LongSumCarries};
 
 /// An access whose base moves first: the base moves by way of a scratch register, and the access is at the base.
 pub fn pre_accesses_work()
@@ -82,4 +83,9 @@ pub fn register_calls_work()
 /// BLX of lr: the jump is by a copy of it.
 pub fn link_calls_work()
     ensures { LinkCallCarries }
+{}
+
+/// SMLAL and UMLAL: a long product into scratch registers, ADDS and ADC, and moves from there; the flags are lost.
+pub fn long_sums_work()
+    ensures { LongSumCarries }
 {}
