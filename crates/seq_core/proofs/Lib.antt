@@ -31,3 +31,12 @@ pub mod Stacks
 pub mod Returns
 pub mod InPlace
 pub mod Sums
+pub mod ClassesApart
+pub mod ClassesDecided
+pub mod ClassesCover
+pub mod NeedsFew
+pub mod RowsApart
+pub mod HalvesApart
+pub mod FullsApart
+pub mod DecodesApart
+pub mod StackKept

@@ -13,3 +13,7 @@ pub mod Bases
 pub mod Calls
 pub mod Stacks
 pub mod Sums
+pub mod Classes
+pub mod Needs
+pub mod Series
+pub mod Accepted

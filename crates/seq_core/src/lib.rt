@@ -1,9 +1,13 @@
-//! What instructions do to the state, and what sequences of them do whatever is skipped.
+//! Sequences that do the work of an instruction whatever is skipped: their classes, what they need, and the laws of both.
 #![tactic(auto)]
 
 mod class_laws;
+mod classes;
+mod coverage;
 mod laws;
 mod moving_laws;
+mod needs;
+mod steps;
 
 pub use class_laws::{
     branches_in_place, clears_in_place, conditions_work, copies_at_places, guards_work,
@@ -12,6 +16,8 @@ pub use class_laws::{
     low_words_through_scratch, sp_sums_through_scratch, through_scratch, traps_in_place,
     twice_in_place,
 };
+pub use classes::{Class, class_of};
+pub use coverage::{decodes_are_apart, instructions_have_one_class, needs_are_small};
 pub use laws::{
     effects_depend_on_reads, effects_keep_to_writes, effects_stay_quiet, effects_write_all,
     low_results_go_to, results_go_to, schedules_are_legal, sequences_work, sequences_work_once,
@@ -23,3 +29,5 @@ pub use moving_laws::{
     pre_accesses_work, pre_pairs_work, register_calls_work, register_jumps_work,
     zero_branches_work,
 };
+pub use needs::{Need, need_of};
+pub use steps::{Goal, Seq, Step};
