@@ -41,3 +41,4 @@ pub mod FullsApart
 pub mod DecodesApart
 pub mod StackKept
 pub mod FlagsKept
+pub mod MovesCoded

@@ -17,4 +17,5 @@ pub mod Classes
 pub mod Needs
 pub mod Series
 pub mod Accepted
+pub mod Constants
 pub mod Places
