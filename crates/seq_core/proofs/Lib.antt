@@ -40,3 +40,4 @@ pub mod HalvesApart
 pub mod FullsApart
 pub mod DecodesApart
 pub mod StackKept
+pub mod Decoded

@@ -17,3 +17,4 @@ pub mod Classes
 pub mod Needs
 pub mod Series
 pub mod Accepted
+pub mod Decoded
