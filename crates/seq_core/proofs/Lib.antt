@@ -41,3 +41,4 @@ pub mod FullsApart
 pub mod DecodesApart
 pub mod StackKept
 pub mod Decoded
+pub mod FlagsKept

@@ -13,7 +13,8 @@ use Rattle.thumb_instr.specs.declared.refusals.ItPlace.{ItPlace}
 use Rattle.thumb_instr.specs.declared.instructions.Instr.{Instr}
 use Rattle.thumb_instr.specs.declared.instructions.Instr.TheVariants.{Alu, Move, Test, ShiftBy, Wide, Half, Field, Unary, Mul, MulAcc, LongMul, Div, Access, Pair, Multi, Literal, Adr, ZeroBranch}
 use Rattle.thumb_instr.specs.Operands.{has}
-use Rattle.thumb_instr.specs.Sets.{is_source, moves_base, moves_pair_base, writes_of}
+use Rattle.thumb_instr.specs.Sets.{is_source, moves_base, moves_pair_base, reads_of, writes_of}
+use Rattle.thumb_instr.specs.MaySet.{may_set_of}
 use Rattle.thumb_instr.specs.DataRows.{is_copy, takes_sp}
 use Rattle.thumb_instr.specs.Rows.{decode}
 use Rattle.seq_core.specs.declared.classes.Class.TheVariants.{Through}
@@ -90,3 +91,7 @@ DecodesApart = (place : ItPlace) (first second : ℕ) (i : Instr) → decode pla
 -- So what goes through scratch registers leaves sp alone.
 abbrev pub ThroughKeepsStack : Type 0
 ThroughKeepsStack = (place : ItPlace) (first second : ℕ) (i : Instr) → decode place first second ≡ Ok i → IsOf Through i → writes_of i 13 ≡ false
+
+-- Nothing is both read and set. The flags of a branch's condition count as read, too, but a branch sets none.
+abbrev pub DecodesKeepFlags : Type 0
+DecodesKeepFlags = (place : ItPlace) (first second : ℕ) (i : Instr) → decode place first second ≡ Ok i → (k : ℕ) → (reads_of i k && may_set_of i k) ≡ false

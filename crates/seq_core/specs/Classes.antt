@@ -61,11 +61,12 @@ abbrev pub pops : Instr → Bool
 pops (Multi i) = not i.pc && (i.back && (i.load && (not i.down && (i.n == 13))))
 pops i = false
 
+-- a load of a list with pc: a return
 abbrev pub has_pc : Instr → Bool
 has_pc (Multi i) = i.pc
 has_pc i = false
 
--- any other load or store of a list that moves its base
+-- a load or store of a list without pc that moves its base
 abbrev pub moves_list_base : Instr → Bool
 moves_list_base (Multi i) = not i.pc && i.back
 moves_list_base i = false
@@ -104,9 +105,9 @@ names RegisterCall i = calls_register i
 names RegisterJump i = jumps_to_register i
 names Zero i = branches_on_zero i
 
--- An instruction is of the class that names it. Of the others, what may be executed twice in a row for once is
--- Twice; and Through is what has a destination that it reads, but for MOVT, and BFI of another register, which are
--- Twice.
+-- An instruction is of the class that names it. Of the others those are Twice that may be executed twice in a row for
+-- once: they read no destination, or only bits of it that they keep. The rest, which has a destination that it reads,
+-- is Through.
 abbrev pub IsOf : Class → Instr → Type 0
 IsOf Twice i = IsIdempotent i
 IsOf Through i = (¬ KeepsSources i) × (fills_in i ≡ false) × ((c : Class) → names c i ≡ false)

@@ -18,3 +18,4 @@ pub mod Needs
 pub mod Series
 pub mod Accepted
 pub mod Decoded
+pub mod Places

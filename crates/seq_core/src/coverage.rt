@@ -1,9 +1,11 @@
 //! Laws of classes. The functions do nothing: their contracts are the laws.
 
 ghost use Rattle.std.specs.Prelude.{◌≡◌, ◌≤◌, false, true};
-ghost use Rattle.seq_core.specs.Accepted.{DecodesApart, ThroughKeepsStack};
+ghost use Rattle.seq_core.specs.Accepted.{DecodesApart, DecodesKeepFlags, ThroughKeepsStack};
 ghost use Rattle.seq_core.specs.Classes.{ClassesCover, ClassesApart};
 ghost use Rattle.seq_core.specs.Needs.{ThroughNeeds, NeedsFit};
+
+use thumb_instr::{decodes_are_formed, decodes_use_carry_once};
 
 /// Each instruction but ADR and IT is of one class, and of no other; and these two are of none.
 pub fn instructions_have_one_class()
@@ -23,3 +25,11 @@ pub fn decodes_are_apart()
     ensures apart { DecodesApart }
     ensures through { ThroughKeepsStack }
 {}
+
+/// No instruction both reads a flag and sets it.
+pub fn decodes_keep_flags()
+    ensures { DecodesKeepFlags }
+{
+    decodes_are_formed();
+    decodes_use_carry_once();
+}

@@ -8,6 +8,7 @@ mod laws;
 mod moving_laws;
 mod needs;
 mod steps;
+mod units;
 
 pub use class_laws::{
     branches_in_place, clears_in_place, conditions_work, copies_at_places, decodes_through_scratch,
@@ -17,7 +18,9 @@ pub use class_laws::{
     sp_sums_through_scratch, through_scratch, traps_in_place, twice_in_place,
 };
 pub use classes::{Class, class_of};
-pub use coverage::{decodes_are_apart, instructions_have_one_class, needs_are_small};
+pub use coverage::{
+    decodes_are_apart, decodes_keep_flags, instructions_have_one_class, needs_are_small,
+};
 pub use laws::{
     effects_depend_on_reads, effects_keep_to_writes, effects_stay_quiet, effects_write_all,
     low_results_go_to, results_go_to, schedules_are_legal, sequences_work, sequences_work_once,
@@ -31,3 +34,4 @@ pub use moving_laws::{
 };
 pub use needs::{Need, need_of};
 pub use steps::{Goal, Seq, Step};
+pub use units::{Layout, PlacedUnit, Unit};
