@@ -90,7 +90,7 @@ never : (b : Bool) → (b ≡ true → ⊥) → b ≡ false
 never true f = absurd (f refl)
 never false f = refl
 
-flags_apart : (i : Instr) (k : ℕ) → NamesRegisters i → (reads_of i 18 && sets_flags_of i 18) ≡ false → reads_of i k ≡ true → may_set_of i k ≡ false
+pub flags_apart : (i : Instr) (k : ℕ) → NamesRegisters i → (reads_of i 18 && sets_flags_of i 18) ≡ false → reads_of i k ≡ true → may_set_of i k ≡ false
 unfolding reads_of sets_flags_of
 flags_apart (Alu i) k n c r = by_carry (Alu i) k _ c r
     (λ s. let f = sum_flag i.s _ i.x k s in
@@ -130,7 +130,7 @@ flags_apart (It i) k n c r = refl
 flags_apart (Nothing i) k n c r = refl
 flags_apart (Trap i) k n c r = refl
 
-not_tested : (i : Instr) (k : ℕ) → goes_on_always i ≡ true → uses_of i k ≡ true → reads_of i k ≡ true
+pub not_tested : (i : Instr) (k : ℕ) → goes_on_always i ≡ true → uses_of i k ≡ true → reads_of i k ≡ true
 not_tested i k g u = ⊎_elim (λ r. r) (λ t. absurd (none i k g t)) (or_cases (reads_of i k) (tests_of i k) u)
   where
     none : (i : Instr) (k : ℕ) → goes_on_always i ≡ true → tests_of i k ≡ true → ⊥

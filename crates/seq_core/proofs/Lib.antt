@@ -40,5 +40,6 @@ pub mod HalvesApart
 pub mod FullsApart
 pub mod DecodesApart
 pub mod StackKept
+pub mod Decoded
 pub mod FlagsKept
 pub mod MovesCoded

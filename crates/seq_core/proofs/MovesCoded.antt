@@ -1,13 +1,12 @@
 -- The numbers by which bases move are constants.
 use Rattle.std.proofs.Common.{ℕ, ◌≡◌, ◌<◌, ◌≤◌, ◌+◌, ◌-◌, ◌*◌, ◌/◌, ◌%◌, ◌^◌, Bool, true, false, refl, arith, lit≤, ◌∙◌}
-use Rattle.std.specs.Prelude.{if◌then◌else◌, ◌&&◌, ◌||◌, ◌==◌, nat_lt, nat_le}
+use Rattle.std.specs.Prelude.{if◌then◌else◌, nat_lt}
 use Rattle.std.proofs.lemmas.Grind.{common_steps}
 use Rattle.std.proofs.lemmas.Bool.Decides.{nat_tests}
 use Rattle.mark_word.specs.Formulas.{expand_imm, turned}
 use Rattle.thumb_instr.specs.Operands.{has_constant}
 use Rattle.thumb_instr.specs.Meanings.{constant_of}
 use Rattle.thumb_table.specs.Effects.{of_imm}
-use Rattle.seq_core.specs.Bases.{IsConstant}
 use Rattle.seq_core.specs.Constants.{MovesAreConstants, is_move}
 
 abbrev worth : ℕ → ℕ

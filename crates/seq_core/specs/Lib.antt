@@ -18,4 +18,5 @@ pub mod Needs
 pub mod Series
 pub mod Accepted
 pub mod Constants
+pub mod Decoded
 pub mod Places

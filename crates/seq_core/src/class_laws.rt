@@ -1,5 +1,6 @@
 //! Laws of the classes of sequences. The functions do nothing: their contracts are the laws.
 
+ghost use Rattle.seq_core.specs.Decoded.{IdempotentDecodes, ThroughDecodes};
 ghost use Rattle.seq_core.specs.Groups.{HalfPlaced, LiteralPlaced, Placed};
 ghost use Rattle.seq_core.specs.Guards.{ConditionCarries, GuardCarries};
 ghost use Rattle.seq_core.specs.Sequences.{Moves, Settles};
@@ -41,6 +42,11 @@ pub fn idempotent_in_place()
     ensures { IdempotentCarries }
 {}
 
+/// Of what halfwords stand for nothing more is asked.
+pub fn idempotent_decodes_in_place()
+    ensures { IdempotentDecodes }
+{}
+
 /// A branch on the inverse condition makes of a sequence one under a condition.
 pub fn guards_work()
     ensures again { GuardCarries Settles }
@@ -56,6 +62,11 @@ pub fn conditions_work()
 /// A value may go to a scratch register first.
 pub fn through_scratch()
     ensures { ThroughCarries }
+{}
+
+/// Of what halfwords stand for only a free register is asked.
+pub fn decodes_through_scratch()
+    ensures { ThroughDecodes }
 {}
 
 /// So may a sum with sp.
