@@ -1,0 +1,5 @@
+use Rattle.seq_core.proofs.Copied.{base_copy_list_is_done}
+use Rattle.seq_core.proofs.moving_laws.base_copies_of_lists_work.Goals as goal
+
+pub returns : goal.returns
+returns c = base_copy_list_is_done

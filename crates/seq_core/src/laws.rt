@@ -1,0 +1,49 @@
+//! Laws of instructions and of sequences. The functions do nothing: their contracts are the laws.
+
+ghost use Rattle.seq_core.specs.Effects.{DependsOnReads, GoesTo, KeepsToWrites, LowGoesTo, StaysQuiet, WritesAll};
+ghost use Rattle.seq_core.specs.Sequences.{SchedulesAreLegal, SequencesWork, SequencesWorkOnce};
+
+/// An effect depends only on what the instruction reads, on memory and on where it stands.
+pub fn effects_depend_on_reads()
+    ensures { DependsOnReads }
+{}
+
+/// Of registers and flags an effect changes only what the instruction writes and may set.
+pub fn effects_keep_to_writes()
+    ensures { KeepsToWrites }
+{}
+
+/// Memory changes only by stores, the IT state only by IT, and control goes on unless it jumps.
+pub fn effects_stay_quiet()
+    ensures { StaysQuiet }
+{}
+
+/// An effect changes all that the instruction writes and sets.
+pub fn effects_write_all()
+    ensures { WritesAll }
+{}
+
+/// An instruction gives the same value and the same flags in another register.
+pub fn results_go_to()
+    ensures { GoesTo }
+{}
+
+/// A long product gives the same low word in another register.
+pub fn low_results_go_to()
+    ensures { LowGoesTo }
+{}
+
+/// Groups that may be done twice, each as often as a schedule is legal for, do their work whatever it skips.
+pub fn sequences_work()
+    ensures { SequencesWork }
+{}
+
+/// Groups of one copy each do their work where nothing is skipped.
+pub fn sequences_work_once()
+    ensures { SequencesWorkOnce }
+{}
+
+/// A list of skipped steps that is legal is so as a test of steps.
+pub fn schedules_are_legal()
+    ensures { SchedulesAreLegal }
+{}

@@ -1,0 +1,39 @@
+//! Sequences that do the work of an instruction whatever is skipped: their classes, what they need, and the laws of both.
+#![tactic(auto)]
+
+mod class_laws;
+mod classes;
+mod constants;
+mod coverage;
+mod laws;
+mod moving_laws;
+mod needs;
+mod steps;
+mod units;
+
+pub use class_laws::{
+    branches_in_place, clears_in_place, conditions_work, copies_at_places, decodes_through_scratch,
+    guards_work, halves_at_places, halves_in_place, high_words_through_scratch,
+    idempotent_decodes_in_place, idempotent_in_place, inserts_in_place, inserts_through_scratch,
+    literals_at_places, long_products_through_scratch, low_words_through_scratch,
+    sp_sums_through_scratch, through_scratch, traps_in_place, twice_in_place,
+};
+pub use classes::{Class, class_of};
+pub use constants::{code_of_move, moves_are_constants};
+pub use coverage::{
+    decodes_are_apart, decodes_keep_flags, instructions_have_one_class, needs_are_small,
+};
+pub use laws::{
+    effects_depend_on_reads, effects_keep_to_writes, effects_stay_quiet, effects_write_all,
+    low_results_go_to, results_go_to, schedules_are_legal, sequences_work, sequences_work_once,
+};
+pub use moving_laws::{
+    base_copies_of_lists_work, base_copies_of_one_work, base_copies_of_pairs_work,
+    direct_calls_work, flagged_products_work, link_calls_work, lists_downwards_work,
+    lists_upwards_work, long_sums_work, pops_into_pc_work, post_accesses_work, post_pairs_work,
+    pre_accesses_work, pre_pairs_work, register_calls_work, register_jumps_work,
+    zero_branches_work,
+};
+pub use needs::{Need, need_of};
+pub use steps::{Goal, Seq, Step};
+pub use units::{Layout, PlacedUnit, Unit};
