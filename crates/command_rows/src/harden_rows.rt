@@ -1,5 +1,7 @@
 use crate::calls::{Answer, Call, answers};
 use crate::files::{FIVE, HARDENED, PLAIN, WITH_DEBUG, plain_with, without_sections};
+use std::alloc::Global;
+use std::process::Abort;
 use std::test::Fail;
 
 const REPORT: &str =
@@ -15,46 +17,53 @@ const NOT_YET: &str = "a.o: refused 32 NotYet section 0 offset 0\n";
 const SIXTEEN_PAIRS: &str =
     "harden a.o b.o a b a b a b a b a b a b a b a b a b a b a b a b a b a b a b";
 
-/// What `harden a.o b.o` makes of each file.
+/// What `harden a.o b.o` makes of a file.
+fn makes(rt: &impl Abort, alloc: Global, file: &[u8], want: Answer<'_>) -> Result<(), Fail> {
+    let call = Call {
+        words: "harden a.o b.o",
+        files: &[("a.o", file)],
+        shelf_fails: &[],
+        sink_fails: &[],
+    };
+    answers(rt, alloc, &call, "b.o", want)
+}
+
 #[test]
-fn hardens_and_refuses_files(rt: HostRuntime) -> Result<(), Fail> {
-    let long = vec![in rt.alloc(); 0u8; 1_048_577]?;
-    let most = vec![in rt.alloc(); 0u8; 1_048_576]?;
-    let empty = without_sections();
-    let adds = [0x01, 0x30];
-    let mut adding = PLAIN;
-    adding[52..54].copy_from_slice(&adds);
-    let rows: [(&[u8], Answer<'_>); 10] = [
-        (&PLAIN, (0, REPORT, Some(&HARDENED))),
-        (&WITH_DEBUG, (0, REPORT_OF_ONE_DROPPED, Some(&HARDENED))),
-        (
-            &long,
-            (1, "a.o: refused 31 TooLong section 0 offset 0\n", None),
-        ),
-        (&most, (1, NOT_ELF, None)),
-        (&[], (1, NOT_ELF, None)),
-        (&PLAIN[..51], (1, NOT_ELF, None)),
-        (
-            &plain_with(4, 2),
-            (1, "a.o: refused 2 NotArmRel section 0 offset 4\n", None),
-        ),
-        (
-            &PLAIN[..80],
-            (1, "a.o: refused 3 BadTable section 0 offset 32\n", None),
-        ),
-        (&empty, (1, NOT_YET, None)),
-        (&adding, (1, NOT_YET, None)),
-    ];
-    for (file, want) in rows {
-        let call = Call {
-            words: "harden a.o b.o",
-            files: &[("a.o", file)],
-            shelf_fails: &[],
-            sink_fails: &[],
-        };
-        answers(&rt, rt.alloc(), &call, "b.o", want)?;
+fn hardens_files(rt: HostRuntime) -> Result<(), Fail> {
+    let rows: [(&[u8], &str); 2] = [(&PLAIN, REPORT), (&WITH_DEBUG, REPORT_OF_ONE_DROPPED)];
+    for (file, text) in rows {
+        makes(&rt, rt.alloc(), file, (0, text, Some(&HARDENED)))?;
     }
     Ok(())
+}
+
+#[test]
+fn refuses_other_files(rt: HostRuntime) -> Result<(), Fail> {
+    let mut adding = PLAIN;
+    adding[52] = 0x01;
+    adding[53] = 0x30;
+    let want = (1, NOT_YET, None);
+    makes(&rt, rt.alloc(), &adding, want)?;
+    makes(&rt, rt.alloc(), &without_sections(), want)
+}
+
+#[test]
+fn refuses_files_with_faults(rt: HostRuntime) -> Result<(), Fail> {
+    let other_class = "a.o: refused 2 NotArmRel section 0 offset 4\n";
+    let no_headers = "a.o: refused 3 BadTable section 0 offset 32\n";
+    makes(&rt, rt.alloc(), &[], (1, NOT_ELF, None))?;
+    makes(&rt, rt.alloc(), &PLAIN[..51], (1, NOT_ELF, None))?;
+    makes(&rt, rt.alloc(), &plain_with(4, 2), (1, other_class, None))?;
+    makes(&rt, rt.alloc(), &PLAIN[..80], (1, no_headers, None))
+}
+
+#[test]
+fn refuses_long_files(rt: HostRuntime) -> Result<(), Fail> {
+    let too_long = "a.o: refused 31 TooLong section 0 offset 0\n";
+    let most = vec![in rt.alloc(); 0u8; 1_048_576]?;
+    makes(&rt, rt.alloc(), &most, (1, NOT_ELF, None))?;
+    let long = vec![in rt.alloc(); 0u8; 1_048_577]?;
+    makes(&rt, rt.alloc(), &long, (1, too_long, None))
 }
 
 /// What is saved and said where a call on the shelf or the sink fails, and where nothing is loaded.
