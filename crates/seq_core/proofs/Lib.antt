@@ -42,3 +42,4 @@ pub mod DecodesApart
 pub mod StackKept
 pub mod Decoded
 pub mod FlagsKept
+pub mod Single

@@ -19,3 +19,4 @@ pub mod Series
 pub mod Accepted
 pub mod Decoded
 pub mod Places
+pub mod Single

@@ -14,8 +14,8 @@ pub use class_laws::{
     branches_in_place, clears_in_place, conditions_work, copies_at_places, decodes_through_scratch,
     guards_work, halves_at_places, halves_in_place, high_words_through_scratch,
     idempotent_decodes_in_place, idempotent_in_place, inserts_in_place, inserts_through_scratch,
-    literals_at_places, long_products_through_scratch, low_words_through_scratch,
-    sp_sums_through_scratch, through_scratch, traps_in_place, twice_in_place,
+    itself_once, literals_at_places, long_products_through_scratch, low_words_through_scratch,
+    settled_once, sp_sums_through_scratch, through_scratch, traps_in_place, twice_in_place,
 };
 pub use classes::{Class, class_of};
 pub use coverage::{
