@@ -20,3 +20,4 @@ pub mod Accepted
 pub mod Decoded
 pub mod Places
 pub mod Single
+pub mod Example

@@ -1,6 +1,7 @@
 //! Laws of instructions and of sequences. The functions do nothing: their contracts are the laws.
 
 ghost use Rattle.seq_core.specs.Effects.{DependsOnReads, GoesTo, KeepsToWrites, LowGoesTo, StaysQuiet, WritesAll};
+ghost use Rattle.seq_core.specs.Example.{AddsWorks};
 ghost use Rattle.seq_core.specs.Sequences.{SchedulesAreLegal, SequencesWork, SequencesWorkOnce};
 
 /// An effect depends only on what the instruction reads, on memory and on where it stands.
@@ -46,4 +47,9 @@ pub fn sequences_work_once()
 /// A list of skipped steps that is legal is so as a test of steps.
 pub fn schedules_are_legal()
     ensures { SchedulesAreLegal }
+{}
+
+/// One of them in bytes: ADDS of 1 to r0, by way of r12.
+pub fn an_addition_works()
+    ensures { AddsWorks }
 {}
