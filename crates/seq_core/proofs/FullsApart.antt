@@ -1,5 +1,5 @@
 -- What the rows of two halfwords give of bases and of sp.
-use Rattle.std.proofs.Common.{◌≡◌, ℕ, zero, suc, Bool, true, false, Option, Some, None, refl, arith}
+use Rattle.std.proofs.Common.{◌≡◌, ◌<◌, ◌^◌, ℕ, zero, suc, Bool, true, false, Option, Some, None, refl, arith}
 use Rattle.std.proofs.lemmas.Bool.Decides.{nat_tests}
 use Rattle.thumb_instr.specs.declared.operations.AluOp.{AluOp}
 use Rattle.thumb_instr.specs.declared.operations.MoveOp.{MoveOp}
@@ -16,7 +16,8 @@ use Rattle.thumb_instr.specs.Sets.{moves_base, moves_pair_base}
 use Rattle.thumb_instr.specs.Patterns.{Answer}
 use Rattle.thumb_instr.specs.DataRows.{names, has_odd_sp, alu_row, move_row, test_row, or_test, or_move, data_processing}
 use Rattle.thumb_instr.specs.FullRows.{many, two_words, exclusive, dual, wide_row, extract, insert, on_condition_branch, on_access, access_row, by_byte, by_register, product, full_rows}
-use Rattle.seq_core.specs.Accepted.{place_names_stack}
+use Rattle.seq_core.specs.Accepted.{place_names_stack, place_moves_by_byte}
+use Rattle.std.specs.Prelude.{nat_lt}
 use Rattle.seq_core.proofs.RowsApart.{AllApart, ◌&◌, tells, if_tells}
 
 -- data processing
@@ -74,13 +75,13 @@ dual_tells : (p u w l n t s i : ℕ) → tells (dual p u w l n t s i) ≡ true
 unfolding dual
 dual_tells p u w l n t s i = search (two_words_tells, exclusive_tells, if_tells)
 
-access_row_tells : (op : AccessOp) (t n : ℕ) (place : Place) (back : Bool) → moves_base place ≡ back → place_names_stack place ≡ false → tells (access_row op t n place back) ≡ true
+access_row_tells : (op : AccessOp) (t n : ℕ) (place : Place) (back : Bool) → moves_base place ≡ back → place_names_stack place ≡ false → place_moves_by_byte place ≡ true → tells (access_row op t n place back) ≡ true
 unfolding access_row
-access_row_tells op t n place back e f = grind (arith, nat_tests)
+access_row_tells op t n place back e f g = grind (arith, nat_tests)
 
-by_byte_tells : (p u w : ℕ) (op : AccessOp) (n t i : ℕ) → tells (by_byte p u w op n t i) ≡ true
+by_byte_tells : (p u w : ℕ) (op : AccessOp) (n t i : ℕ) → i < 2 ^ 8 → tells (by_byte p u w op n t i) ≡ true
 unfolding by_byte
-by_byte_tells p u w op n t i = search (access_row_tells, if_tells)
+by_byte_tells p u w op n t i low = let byte : nat_lt i 256 ≡ true = grind (arith, nat_tests) in search (byte, access_row_tells, if_tells)
 
 by_register_tells : (op : AccessOp) (n t shift m : ℕ) → tells (by_register op n t shift m) ≡ true
 unfolding by_register

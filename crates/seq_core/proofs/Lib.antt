@@ -44,3 +44,4 @@ pub mod Decoded
 pub mod FlagsKept
 pub mod Single
 pub mod Example
+pub mod MovesCoded

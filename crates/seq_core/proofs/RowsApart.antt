@@ -5,11 +5,11 @@ use Rattle.std.proofs.lemmas.Nat.{pow_pos}
 use Rattle.std.specs.Prelude.{⊤, ◌&&◌, not, if◌then◌else◌}
 use Rattle.thumb_instr.specs.declared.instructions.Instr.{Instr}
 use Rattle.thumb_instr.specs.Patterns.{Bits, Fixed, Field, Made, Row, Answer, cut, fits, filled_in, decoded}
-use Rattle.seq_core.specs.Accepted.{keeps_base_apart, misplaces_stack}
+use Rattle.seq_core.specs.Accepted.{keeps_base_apart, misplaces_stack, moves_by_byte}
 
--- An instruction has its base apart, and sp where it may stand.
+-- An instruction has its base apart and moves it by a byte, and has sp where it may stand.
 abbrev pub tells : Answer → Bool
-tells (Ok i) = keeps_base_apart i && not (misplaces_stack i)
+tells (Ok i) = keeps_base_apart i && (not (misplaces_stack i) && moves_by_byte i)
 tells (Err k) = true
 
 abbrev pub Fill : (ps : List Bits) → Made ps → Type 0
@@ -43,11 +43,15 @@ decoded_tells size [] h g = refl
 decoded_tells size (r ∷ rows) h g = if_tells (fits r.pattern size h) _ _ (λ _. filled_tells r.pattern r.means size h g.0) (λ _. decoded_tells size rows h g.1)
 
 -- what an instruction's answer tells
-pub told : (i : Instr) (a : Answer) → a ≡ Ok i → tells a ≡ true → (keeps_base_apart i ≡ true) × (misplaces_stack i ≡ false)
-told i (Ok j) e t = let same : j ≡ i = cc in subst (λ (x : Instr). (keeps_base_apart x ≡ true) × (misplaces_stack x ≡ false)) same (both (keeps_base_apart j) (misplaces_stack j) t)
+abbrev pub IsTold : Instr → Type 0
+IsTold i = (keeps_base_apart i ≡ true) × (misplaces_stack i ≡ false) × (moves_by_byte i ≡ true)
+
+pub told : (i : Instr) (a : Answer) → a ≡ Ok i → tells a ≡ true → IsTold i
+told i (Ok j) e t = let same : j ≡ i = cc in subst IsTold same (all (keeps_base_apart j) (misplaces_stack j) (moves_by_byte j) t)
   where
-    both : (a b : Bool) → (a && not b) ≡ true → (a ≡ true) × (b ≡ false)
-    both true true t = cc
-    both true false t = (refl, refl)
-    both false b t = cc
+    all : (a b c : Bool) → (a && (not b && c)) ≡ true → (a ≡ true) × (b ≡ false) × (c ≡ true)
+    all true false true t = (refl, refl, refl)
+    all true false false t = cc
+    all true true c t = cc
+    all false b c t = cc
 told i (Err k) e t = cc

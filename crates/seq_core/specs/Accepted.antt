@@ -1,5 +1,5 @@
 -- What the rows of decode give of an instruction beside what its fields tell.
-use Rattle.std.specs.Prelude.{ℕ, ◌≡◌, ◌==◌, ◌&&◌, ◌||◌, not, Bool, true, false, Ok, if◌then◌else◌}
+use Rattle.std.specs.Prelude.{ℕ, ◌≡◌, ◌==◌, ◌&&◌, ◌||◌, not, nat_lt, Bool, true, false, Ok, if◌then◌else◌}
 use Rattle.thumb_instr.specs.declared.operations.AluOp.{AluOp}
 use Rattle.thumb_instr.specs.declared.operations.AluOp.TheVariants as alu
 use Rattle.thumb_instr.specs.declared.operations.TestOp.{TestOp}
@@ -26,6 +26,17 @@ keeps_base_apart (Access i) = not (moves_base i.place && (i.n == i.t))
 keeps_base_apart (Pair i) = not (moves_pair_base i.index && ((i.n == i.t) || (i.n == i.u)))
 keeps_base_apart (Multi i) = not (i.back && has i.list.0 i.n)
 keeps_base_apart i = true
+
+abbrev pub place_moves_by_byte : Place → Bool
+place_moves_by_byte (Offset up imm) = true
+place_moves_by_byte (Pre up imm) = nat_lt imm 256
+place_moves_by_byte (Post up imm) = nat_lt imm 256
+place_moves_by_byte (Index m shift) = true
+
+-- The number by which an access moves its base is below 256.
+abbrev pub moves_by_byte : Instr → Bool
+moves_by_byte (Access i) = place_moves_by_byte i.place
+moves_by_byte i = true
 
 abbrev pub is_stack : ℕ → Bool
 is_stack r = r == 13
@@ -91,6 +102,9 @@ DecodesApart = (place : ItPlace) (first second : ℕ) (i : Instr) → decode pla
 -- So what goes through scratch registers leaves sp alone.
 abbrev pub ThroughKeepsStack : Type 0
 ThroughKeepsStack = (place : ItPlace) (first second : ℕ) (i : Instr) → decode place first second ≡ Ok i → IsOf Through i → writes_of i 13 ≡ false
+
+abbrev pub DecodesMoveByBytes : Type 0
+DecodesMoveByBytes = (place : ItPlace) (first second : ℕ) (i : Instr) → decode place first second ≡ Ok i → moves_by_byte i ≡ true
 
 -- Nothing is both read and set. The flags of a branch's condition count as read, too, but a branch sets none.
 abbrev pub DecodesKeepFlags : Type 0

@@ -1,7 +1,7 @@
 //! Laws of classes. The functions do nothing: their contracts are the laws.
 
 ghost use Rattle.std.specs.Prelude.{◌≡◌, ◌≤◌, false, true};
-ghost use Rattle.seq_core.specs.Accepted.{DecodesApart, DecodesKeepFlags, ThroughKeepsStack};
+ghost use Rattle.seq_core.specs.Accepted.{DecodesApart, DecodesKeepFlags, DecodesMoveByBytes, ThroughKeepsStack};
 ghost use Rattle.seq_core.specs.Classes.{ClassesCover, ClassesApart};
 ghost use Rattle.seq_core.specs.Needs.{ThroughNeeds, NeedsFit};
 
@@ -20,10 +20,11 @@ pub fn needs_are_small()
 {}
 
 /// Whatever halfwords stand for has its base apart and sp where it may stand; so what goes through scratch
-/// registers leaves sp alone.
+/// registers leaves sp alone. An access moves its base by a number below 256.
 pub fn decodes_are_apart()
     ensures apart { DecodesApart }
     ensures through { ThroughKeepsStack }
+    ensures bytes { DecodesMoveByBytes }
 {}
 
 /// No instruction both reads a flag and sets it.

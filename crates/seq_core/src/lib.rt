@@ -3,6 +3,7 @@
 
 mod class_laws;
 mod classes;
+mod constants;
 mod coverage;
 mod laws;
 mod moving_laws;
@@ -18,6 +19,7 @@ pub use class_laws::{
     settled_once, sp_sums_through_scratch, through_scratch, traps_in_place, twice_in_place,
 };
 pub use classes::{Class, class_of};
+pub use constants::{code_of_move, moves_are_constants};
 pub use coverage::{
     decodes_are_apart, decodes_keep_flags, instructions_have_one_class, needs_are_small,
 };

@@ -1,4 +1,4 @@
-use Rattle.seq_core.proofs.DecodesApart.{decodes_apart}
+use Rattle.seq_core.proofs.DecodesApart.{decodes_apart, decodes_by_bytes}
 use Rattle.seq_core.proofs.StackKept.{through_keeps_stack}
 use Rattle.seq_core.proofs.coverage.decodes_are_apart.Goals as goal
 
@@ -7,3 +7,6 @@ returns-clause-apart c = decodes_apart
 
 pub returns-clause-through : goal.returns-clause-through
 returns-clause-through c = through_keeps_stack
+
+pub returns-clause-bytes : goal.returns-clause-bytes
+returns-clause-bytes c = decodes_by_bytes
