@@ -45,3 +45,4 @@ pub mod FlagsKept
 pub mod Single
 pub mod Example
 pub mod MovesCoded
+pub mod Denoted

@@ -22,3 +22,4 @@ pub mod Decoded
 pub mod Places
 pub mod Single
 pub mod Example
+pub mod Denoted
