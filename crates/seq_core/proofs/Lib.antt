@@ -42,4 +42,7 @@ pub mod DecodesApart
 pub mod StackKept
 pub mod Decoded
 pub mod FlagsKept
+pub mod Single
+pub mod Example
 pub mod MovesCoded
+pub mod Denoted

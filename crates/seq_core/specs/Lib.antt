@@ -20,3 +20,6 @@ pub mod Accepted
 pub mod Constants
 pub mod Decoded
 pub mod Places
+pub mod Single
+pub mod Example
+pub mod Denoted
