@@ -43,3 +43,4 @@ pub mod StackKept
 pub mod Decoded
 pub mod FlagsKept
 pub mod MovesCoded
+pub mod Built

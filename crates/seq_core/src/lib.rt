@@ -1,6 +1,7 @@
 //! Sequences that do the work of an instruction whatever is skipped: their classes, what they need, and the laws of both.
 #![tactic(auto)]
 
+mod building_laws;
 mod class_laws;
 mod classes;
 mod constants;
@@ -11,6 +12,7 @@ mod needs;
 mod steps;
 mod units;
 
+pub use building_laws::scratch_registers_suffice;
 pub use class_laws::{
     branches_in_place, clears_in_place, conditions_work, copies_at_places, decodes_through_scratch,
     guards_work, halves_at_places, halves_in_place, high_words_through_scratch,
