@@ -42,5 +42,8 @@ pub mod DecodesApart
 pub mod StackKept
 pub mod Decoded
 pub mod FlagsKept
+pub mod Single
+pub mod Example
 pub mod MovesCoded
 pub mod Built
+pub mod Denoted

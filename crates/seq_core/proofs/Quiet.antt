@@ -91,11 +91,11 @@ change_quiet (It i) s x h g m = absurd cc
 change_quiet (Trap i) s x h g m = absurd cc
 
 -- A JUMP, BEHIND A CHANGE
-record Still (i : Instr) (g : Change) : Type 0 where
-  memory : stores i ≡ false → g.cells ≡ []
-  it : g.it ≡ None
+pub record Still (i : Instr) (g : Change) : Type 0 where
+  pub memory : stores i ≡ false → g.cells ≡ []
+  pub it : g.it ≡ None
 
-jump_quiet : (i : Instr) (bits : ℕ) (g h : Change) → Still i g → may_jump i ≡ true → jump_to bits g ≡ Ok h → IsQuiet i h
+pub jump_quiet : (i : Instr) (bits : ℕ) (g h : Change) → Still i g → may_jump i ≡ true → jump_to bits g ≡ Ok h → IsQuiet i h
 jump_quiet i bits g h q j e =
     subst (IsQuiet i) (ok_is _ h (Ok (record g { exit = Jumps (bits - 1) })) refl (passed (bits % 2 == 1) _ _ h e))
     (record { memory = q.memory; it = λ f. q.it; falls = λ f. absurd cc })

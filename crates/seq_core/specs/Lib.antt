@@ -21,3 +21,6 @@ pub mod Built
 pub mod Constants
 pub mod Decoded
 pub mod Places
+pub mod Single
+pub mod Example
+pub mod Denoted

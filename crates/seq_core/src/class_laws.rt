@@ -4,6 +4,7 @@ ghost use Rattle.seq_core.specs.Decoded.{IdempotentDecodes, ThroughDecodes};
 ghost use Rattle.seq_core.specs.Groups.{HalfPlaced, LiteralPlaced, Placed};
 ghost use Rattle.seq_core.specs.Guards.{ConditionCarries, GuardCarries};
 ghost use Rattle.seq_core.specs.Sequences.{Moves, Settles};
+ghost use Rattle.seq_core.specs.Single.{ItselfCarries, SettledCarries};
 ghost use Rattle.seq_core.specs.Through.{HighProductCarries, InsertSelfCarries, LongProductCarries, LowProductCarries, SpSumCarries, ThroughCarries};
 ghost use Rattle.seq_core.specs.Twice.{BranchCarries, ClearCarries, HalfCarries, IdempotentCarries, InsertCarries, TrapCarries, TwiceCarries};
 
@@ -45,6 +46,16 @@ pub fn idempotent_in_place()
 /// Of what halfwords stand for nothing more is asked.
 pub fn idempotent_decodes_in_place()
     ensures { IdempotentDecodes }
+{}
+
+/// Where nothing is skipped, any instruction but IT stays as it is.
+pub fn itself_once()
+    ensures { ItselfCarries }
+{}
+
+/// Where nothing is skipped, one copy is enough of what may be done again.
+pub fn settled_once()
+    ensures { SettledCarries }
 {}
 
 /// A branch on the inverse condition makes of a sequence one under a condition.

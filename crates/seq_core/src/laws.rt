@@ -1,6 +1,8 @@
 //! Laws of instructions and of sequences. The functions do nothing: their contracts are the laws.
 
+ghost use Rattle.seq_core.specs.Denoted.{StepsDenote, StepsWork, StepsWorkOnce};
 ghost use Rattle.seq_core.specs.Effects.{DependsOnReads, GoesTo, KeepsToWrites, LowGoesTo, StaysQuiet, WritesAll};
+ghost use Rattle.seq_core.specs.Example.{AddsWorks};
 ghost use Rattle.seq_core.specs.Sequences.{SchedulesAreLegal, SequencesWork, SequencesWorkOnce};
 
 /// An effect depends only on what the instruction reads, on memory and on where it stands.
@@ -46,4 +48,24 @@ pub fn sequences_work_once()
 /// A list of skipped steps that is legal is so as a test of steps.
 pub fn schedules_are_legal()
     ensures { SchedulesAreLegal }
+{}
+
+/// What stands in code for a step, with its goal reached, does what the step denotes.
+pub fn steps_denote_effects()
+    ensures { StepsDenote }
+{}
+
+/// Steps whose groups carry an effect out do it wherever they stand with their goals reached.
+pub fn steps_work()
+    ensures { StepsWork }
+{}
+
+/// So do steps of one copy each, where nothing is skipped.
+pub fn steps_work_once()
+    ensures { StepsWorkOnce }
+{}
+
+/// One of them in bytes: ADDS of 1 to r0, by way of r12.
+pub fn an_addition_works()
+    ensures { AddsWorks }
 {}

@@ -17,8 +17,8 @@ pub use class_laws::{
     branches_in_place, clears_in_place, conditions_work, copies_at_places, decodes_through_scratch,
     guards_work, halves_at_places, halves_in_place, high_words_through_scratch,
     idempotent_decodes_in_place, idempotent_in_place, inserts_in_place, inserts_through_scratch,
-    literals_at_places, long_products_through_scratch, low_words_through_scratch,
-    sp_sums_through_scratch, through_scratch, traps_in_place, twice_in_place,
+    itself_once, literals_at_places, long_products_through_scratch, low_words_through_scratch,
+    settled_once, sp_sums_through_scratch, through_scratch, traps_in_place, twice_in_place,
 };
 pub use classes::{Class, class_of};
 pub use constants::{code_of_move, moves_are_constants};
@@ -26,8 +26,9 @@ pub use coverage::{
     decodes_are_apart, decodes_keep_flags, instructions_have_one_class, needs_are_small,
 };
 pub use laws::{
-    effects_depend_on_reads, effects_keep_to_writes, effects_stay_quiet, effects_write_all,
-    low_results_go_to, results_go_to, schedules_are_legal, sequences_work, sequences_work_once,
+    an_addition_works, effects_depend_on_reads, effects_keep_to_writes, effects_stay_quiet,
+    effects_write_all, low_results_go_to, results_go_to, schedules_are_legal, sequences_work,
+    sequences_work_once,
 };
 pub use moving_laws::{
     base_copies_of_lists_work, base_copies_of_one_work, base_copies_of_pairs_work,
