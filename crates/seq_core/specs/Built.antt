@@ -7,6 +7,8 @@ use Rattle.thumb_instr.specs.declared.instructions.Instr.TheVariants.{Alu, Field
 use Rattle.thumb_instr.specs.Sets.{keeps_bits, reads_of}
 use Rattle.thumb_instr.specs.Rows.{decode}
 use Rattle.seq_core.specs.declared.classes.Class.TheVariants.{Through}
+use Rattle.seq_core.specs.declared.steps.Step.{Step}
+use Rattle.seq_core.specs.declared.steps.Goal.TheVariants.{Nowhere}
 use Rattle.seq_core.specs.Classes.{IsOf}
 use Rattle.seq_core.specs.Needs.{read_destinations}
 use Rattle.seq_core.specs.Accepted.{operand_names_stack}
@@ -42,3 +44,7 @@ ThroughOneWorks = (place : ItPlace) (first second : ℕ) (i : Instr) (q end : �
 abbrev pub ThroughTwoWorks : Type 0
 ThroughTwoWorks = (place : ItPlace) (first second : ℕ) (i : Instr) (a b end : ℕ) → decode place first second ≡ Ok i → IsOf Through i → read_destinations i ≡ 2 → IsFree i a → IsFree i b → a ≢ b →
     Carries Settles end always (done i) (λ k. (k == a) || (k == b)) (map done (through_two i a b))
+
+-- steps with numbers that lead nowhere
+abbrev pub as_steps : ℕ → List Instr → List Step
+as_steps copies = map (λ i. record { instr = i; goal = Nowhere; copies = copies })

@@ -1,6 +1,7 @@
 //! Sequences that do the work of an instruction whatever is skipped: their classes, what they need, and the laws of both.
 #![tactic(auto)]
 
+mod building;
 mod building_laws;
 mod class_laws;
 mod classes;
@@ -12,6 +13,7 @@ mod needs;
 mod steps;
 mod units;
 
+pub use building::{through_one, through_two};
 pub use building_laws::scratch_registers_suffice;
 pub use class_laws::{
     branches_in_place, clears_in_place, conditions_work, copies_at_places, decodes_through_scratch,
