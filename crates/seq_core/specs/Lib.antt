@@ -18,6 +18,7 @@ pub mod Needs
 pub mod Series
 pub mod Accepted
 pub mod Built
+pub mod Straight
 pub mod Constants
 pub mod Decoded
 pub mod Places

@@ -23,7 +23,7 @@ fn plain(m: Reg) -> Operand
 }
 
 /// MOV of a register.
-fn moving(d: Reg, m: Reg) -> Instr
+pub(crate) fn moving(d: Reg, m: Reg) -> Instr
     ensures { result ≡ moving false d m }
 {
     Instr::Move(Move {
@@ -54,7 +54,7 @@ fn one(first: Instr, copies: u8) -> Seq
 }
 
 /// Two steps.
-fn two(first: Instr, second: Instr, copies: u8) -> Seq
+pub(crate) fn two(first: Instr, second: Instr, copies: u8) -> Seq
     ensures { result ≡ record { steps = as_steps copies (first ∷ second ∷ []); landing = 2 } }
 {
     let mut s = Seq::new();
@@ -64,7 +64,7 @@ fn two(first: Instr, second: Instr, copies: u8) -> Seq
 }
 
 /// Three steps.
-fn three(first: Instr, second: Instr, third: Instr, copies: u8) -> Seq
+pub(crate) fn three(first: Instr, second: Instr, third: Instr, copies: u8) -> Seq
     ensures { result ≡ record { steps = as_steps copies (first ∷ second ∷ third ∷ []); landing = 3 } }
 {
     let mut s = Seq::new();

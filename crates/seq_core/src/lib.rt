@@ -11,6 +11,7 @@ mod laws;
 mod moving_laws;
 mod needs;
 mod steps;
+mod straight;
 mod units;
 
 pub use building::{through_one, through_two};
@@ -41,4 +42,5 @@ pub use moving_laws::{
 };
 pub use needs::{Need, need_of};
 pub use steps::{Goal, Seq, Step};
+pub use straight::{flagged, in_place, written_back};
 pub use units::{Layout, PlacedUnit, Unit};
