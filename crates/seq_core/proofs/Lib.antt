@@ -45,4 +45,5 @@ pub mod FlagsKept
 pub mod Single
 pub mod Example
 pub mod MovesCoded
+pub mod Built
 pub mod Denoted

@@ -17,6 +17,8 @@ pub mod Classes
 pub mod Needs
 pub mod Series
 pub mod Accepted
+pub mod Built
+pub mod Straight
 pub mod Constants
 pub mod Decoded
 pub mod Places

@@ -1,6 +1,8 @@
 //! Sequences that do the work of an instruction whatever is skipped: their classes, what they need, and the laws of both.
 #![tactic(auto)]
 
+mod building;
+mod building_laws;
 mod class_laws;
 mod classes;
 mod constants;
@@ -9,8 +11,11 @@ mod laws;
 mod moving_laws;
 mod needs;
 mod steps;
+mod straight;
 mod units;
 
+pub use building::{through_one, through_two};
+pub use building_laws::scratch_registers_suffice;
 pub use class_laws::{
     branches_in_place, clears_in_place, conditions_work, copies_at_places, decodes_through_scratch,
     guards_work, halves_at_places, halves_in_place, high_words_through_scratch,
@@ -37,4 +42,5 @@ pub use moving_laws::{
 };
 pub use needs::{Need, need_of};
 pub use steps::{Goal, Seq, Step};
+pub use straight::{flagged, in_place, written_back};
 pub use units::{Layout, PlacedUnit, Unit};
