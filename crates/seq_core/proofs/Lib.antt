@@ -47,3 +47,4 @@ pub mod Example
 pub mod MovesCoded
 pub mod Built
 pub mod Denoted
+pub mod Doing

@@ -25,3 +25,5 @@ pub mod Places
 pub mod Single
 pub mod Example
 pub mod Denoted
+pub mod Replaced
+pub mod Builders

@@ -3,6 +3,7 @@
 
 mod building;
 mod building_laws;
+mod builders;
 mod class_laws;
 mod classes;
 mod constants;
@@ -15,6 +16,7 @@ mod straight;
 mod units;
 
 pub use building::{through_one, through_two};
+pub use builders::Builder;
 pub use building_laws::scratch_registers_suffice;
 pub use class_laws::{
     branches_in_place, clears_in_place, conditions_work, copies_at_places, decodes_through_scratch,
@@ -31,7 +33,7 @@ pub use coverage::{
 pub use laws::{
     an_addition_works, effects_depend_on_reads, effects_keep_to_writes, effects_stay_quiet,
     effects_write_all, low_results_go_to, results_go_to, schedules_are_legal, sequences_work,
-    sequences_work_once,
+    sequences_work_once, steps_do,
 };
 pub use moving_laws::{
     base_copies_of_lists_work, base_copies_of_one_work, base_copies_of_pairs_work,

@@ -1,0 +1,18 @@
+-- Steps that carry an instruction out do it wherever they stand.
+use Rattle.std.specs.Prelude.{◌≡◌, refl, ap, sym, ◌∙◌, ℕ, ◌+◌, ◌*◌, List, [], ◌∷◌, length}
+use Rattle.thumb_table.specs.States.{Core}
+use Rattle.seq_core.specs.declared.steps.Step.{Step}
+use Rattle.seq_core.specs.Sequences.{steps_of}
+use Rattle.seq_core.specs.Denoted.{Spots, groups_of}
+use Rattle.seq_core.specs.Builders.{StepsDo, work}
+use Rattle.seq_core.proofs.Denoted.{steps_work}
+
+counted : (c : ℕ) (p : Spots) (ss : List Step) → c * length ss ≡ steps_of c (groups_of p ss)
+counted c p [] = mul_zero c
+counted c p (s ∷ ss) = mul_suc c (length ss) ∙ ap (λ n. c + n) (counted c p ss)
+
+pub steps_do : StepsDo
+steps_do test i lost copies steps carries = record {
+  carries = carries;
+  tolerates = λ code p place stand. steps_work code copies (work test p place (copies * length steps) i lost) p steps stand (counted copies p steps) (carries p);
+}
