@@ -1,9 +1,9 @@
 //! Sequences that do the work of an instruction whatever is skipped: their classes, what they need, and the laws of both.
 #![tactic(auto)]
 
+mod builders;
 mod building;
 mod building_laws;
-mod builders;
 mod class_laws;
 mod classes;
 mod constants;
@@ -15,8 +15,8 @@ mod steps;
 mod straight;
 mod units;
 
-pub use building::{through_one, through_two};
 pub use builders::Builder;
+pub use building::{through_one, through_two};
 pub use building_laws::scratch_registers_suffice;
 pub use class_laws::{
     branches_in_place, clears_in_place, conditions_work, copies_at_places, decodes_through_scratch,
