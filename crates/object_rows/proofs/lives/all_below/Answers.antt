@@ -2,7 +2,7 @@ use Rattle.std.proofs.Common.{◌<◌, arith, subst, ℕ, List}
 use Rattle.std.specs.Prelude.{All}
 use Rattle.std.proofs.lemmas.List.{take_all}
 use Rattle.std.proofs.lemmas.List.Elements.{All-more}
-use Rattle.worked_rows.proofs.lives.all_below.Goals as goal
+use Rattle.object_rows.proofs.lives.all_below.Goals as goal
 
 pub loop-e-preserved : goal.loop-e-preserved
 loop-e-preserved c = All-more (λ e. e < c.args.n) c.args.entries.now c.loop-e.e-index 0 (omega arith) c.loop-e.invariant c.if-n-e.false

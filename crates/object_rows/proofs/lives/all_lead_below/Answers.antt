@@ -4,7 +4,7 @@ use Rattle.std.proofs.lemmas.List.{take_all}
 use Rattle.std.proofs.lemmas.List.Elements.{All-more}
 use Rattle.flow_recover.specs.declared.flows.Point.{Point}
 use Rattle.liveness.specs.Paths.{Leads}
-use Rattle.worked_rows.proofs.lives.all_lead_below.Goals as goal
+use Rattle.object_rows.proofs.lives.all_lead_below.Goals as goal
 
 pub loop-x-preserved : goal.loop-x-preserved
 loop-x-preserved c =

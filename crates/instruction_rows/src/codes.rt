@@ -45,7 +45,7 @@ fn told(alloc: Global, i: &Instr) -> Result<String, AllocError> {
 }
 
 /// The instruction of a code of one halfword, or of two.
-pub(crate) fn decoded(rt: &impl Abort, code: u32) -> Instr {
+fn decoded(rt: &impl Abort, code: u32) -> Instr {
     let first = (code / 65536) as u16;
     let second = (code % 65536) as u16;
     let found = if first == 0 {

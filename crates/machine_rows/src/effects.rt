@@ -3,10 +3,11 @@
 ghost use Rattle.std.specs.Prelude.{◌≡◌, ◌<◌, ◌+◌, ◌^◌, length, map};
 ghost use Rattle.std.specs.List.Sorted.{IsStrictlyIncreasing};
 
-use crate::codes::decoded;
 use mark_word::Word;
 use std::alloc::Global;
 use std::process::Abort;
+use thumb_decode::{ItPlace, decode};
+use thumb_instr::Instr;
 use thumb_table::{CodeBytes, Core, Memory, apply};
 
 /// A code; r1 and r2 before it; r0, and N, Z, C and V as digits, behind it. Before it r0 is 7, C and V are set.
@@ -72,6 +73,18 @@ const PRODUCTS: [Product; 6] = [
     (0xfbc13002, [0xffffffff, 2, 3], [7, 1]),
     (0xfbe13002, [0xffffffff, 2, 3], [9, 1]),
 ];
+
+/// The instruction of a code of one halfword, or of two.
+fn decoded(rt: &impl Abort, code: u32) -> Instr {
+    let first = (code / 65536) as u16;
+    let second = (code % 65536) as u16;
+    let found = if first == 0 {
+        decode(second, None, ItPlace::Outside)
+    } else {
+        decode(first, Some(second), ItPlace::Outside)
+    };
+    found.expect(rt, "an instruction")
+}
 
 fn registers(from: [u32; 3]) -> Core
     ensures { result.pc ≡ 0x8000 }

@@ -1,6 +1,6 @@
 use Rattle.std.proofs.Common.{arith, length, refl}
 use Rattle.liveness.proofs.PointFacts.{flow_names}
-use Rattle.worked_rows.proofs.lives.names_points.Goals as goal
+use Rattle.object_rows.proofs.lives.names_points.Goals as goal
 
 pub returns : goal.returns
 returns c = λ t.

@@ -1,0 +1,15 @@
+//! Rows of calls on objects, flows and links, each with the answer that it must have.
+#![tactic(auto)]
+
+#[cfg(test)]
+mod flow_refusals;
+#[cfg(test)]
+mod flows;
+#[cfg(test)]
+mod links;
+#[cfg(test)]
+mod lives;
+#[cfg(test)]
+mod objects;
+#[cfg(test)]
+mod ranges;
