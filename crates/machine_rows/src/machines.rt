@@ -187,3 +187,14 @@ fn reads_plans(rt: HostRuntime) -> Result<(), Fail> {
     assert!(rt; plan.holds(5) && !plan.holds(4));
     Ok(())
 }
+
+#[test]
+fn draws_plans(rt: HostRuntime) -> Result<(), Fail> {
+    let plan = Plan::drawn(rt.alloc(), 0, 40, 2)?;
+    let skipped = [2, 5, 7, 9, 11, 13, 15, 19, 21];
+    for step in 0..23 {
+        assert_eq!(rt; plan.holds(step), skipped.contains(&step), "{step}");
+    }
+    assert!(rt; !plan.holds(40));
+    Ok(())
+}

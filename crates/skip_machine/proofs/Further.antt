@@ -1,9 +1,8 @@
 -- A machine goes on by one step.
-use Rattle.std.proofs.Common.{◌≡◌, ◌≢◌, ◌↔◌, ◌⊎◌, ℕ, ◌+◌, ◌<◌, ◌≤◌, Bool, true, false, Result, Ok, inl, inr, arith, refl, sym, ap, subst, ◌∙◌, add-one}
+use Rattle.std.proofs.Common.{◌≡◌, ◌≢◌, ◌↔◌, ◌⊎◌, ℕ, ◌+◌, ◌<◌, Bool, true, Ok, inl, inr, arith, refl, sym, ap, subst, ◌∙◌, add-one}
 use Rattle.std.proofs.Math.Nat.{eq-or-lt_of_le}
 use Rattle.thumb_table.specs.Parts.{CodeBytes}
 use Rattle.thumb_table.specs.States.{State}
-use Rattle.thumb_table.specs.declared.faults.FaultKind.{FaultKind}
 use Rattle.thumb_table.specs.Steps.{move}
 use Rattle.thumb_table.specs.Schedules.{run, exit, Goes, OrdinaryStep, OrdinaryRun}
 use Rattle.skip_machine.specs.declared.machines.Moved.{Moved}

@@ -9,3 +9,4 @@ pub mod Moving
 pub mod DecimalTexts
 pub mod Paces
 pub mod PlanSteps
+pub mod DrawnPlans

@@ -1,5 +1,5 @@
 -- A step leaves memory where it is and as large as it is.
-use Rattle.std.proofs.Common.{◌≡◌, ℕ, ◌+◌, ◌^◌, ◌<◌, Bool, true, false, List, [], ◌∷◌, length, Option, Some, None, Result, Ok, Err, arith, refl, ap, subst, ◌∙◌, length-set}
+use Rattle.std.proofs.Common.{◌≡◌, ℕ, ◌+◌, Bool, true, false, List, [], ◌∷◌, length, Option, Some, None, Result, Ok, Err, arith, refl, ap, subst, ◌∙◌, length-set}
 use Rattle.mark_word.specs.Words.{Cell}
 use Rattle.thumb_instr.specs.Rows.{Answer, decode}
 use Rattle.thumb_table.specs.declared.faults.FaultKind.{FaultKind}

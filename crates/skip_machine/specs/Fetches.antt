@@ -1,5 +1,4 @@
 -- Fetched instructions as the machine has them.
-use Rattle.std.specs.Prelude.{ℕ, Option, Some, None}
 use Rattle.thumb_table.specs.Steps.{Fetched}
 use Rattle.thumb_table.specs.CoreStates.{width_of}
 use Rattle.skip_machine.specs.declared.fetches.Fetched.{Fetched as Half}

@@ -4,3 +4,4 @@ pub mod Runs
 pub mod Plans
 pub mod Decimals
 pub mod Paces
+pub mod Draws

@@ -2,6 +2,7 @@
 #![tactic(auto)]
 
 mod decimals;
+mod draws;
 mod fetches;
 mod machines;
 mod moves;

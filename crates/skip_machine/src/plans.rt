@@ -1,12 +1,14 @@
 //! Plans: which steps are skipped.
 
 ghost use Rattle.std.specs.Prelude.{◌≡◌, ◌≤◌, ℕ, List, IfOk};
-ghost use Rattle.thumb_table.specs.Schedules.{is_in};
+ghost use Rattle.thumb_table.specs.Schedules.{is_in, IsLegal};
+ghost use Rattle.skip_machine.specs.Draws.{IsDrawn};
 ghost use Rattle.skip_machine.specs.Plans.{IsPlanText};
 
+use crate::draws::drawn_steps;
 use crate::plan_texts::is_plan;
 use crate::texts::numbers;
-use std::alloc::Global;
+use std::alloc::{AllocError, Global};
 use std::marker::Model;
 use thiserror::Error;
 
@@ -57,6 +59,18 @@ impl Plan {
             Ok(None) => unreachable!(),
             Ok(Some(numbers)) => Ok(Plan { numbers }),
         }
+    }
+
+    /// The plan that a seed draws for so many steps, legal for `copies`: before each step a number is drawn by
+    /// x = 1664525 x + 1013904223 modulo 2^32, and the step is skipped where bit 31 is set and not all of the last
+    /// `copies - 1` steps are skipped.
+    pub fn drawn(alloc: Global, seed: u32, steps: u64, copies: u8) -> Result<Plan, AllocError>
+        requires { 2 ≤ copies }
+        ensures plan { IfOk result (IsDrawn seed steps copies) }
+        ensures legal { IfOk result (IsLegal copies) }
+    {
+        let numbers = drawn_steps(alloc, seed, steps, copies)?;
+        Ok(Plan { numbers })
     }
 
     /// Whether a step is skipped.
