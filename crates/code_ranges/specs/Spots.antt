@@ -16,8 +16,13 @@ use Rattle.code_ranges.specs.declared.spans.Span.{Span}
 use Rattle.code_ranges.specs.Spans.{kind_at}
 use Rattle.code_ranges.specs.CodeRanges.{holds_code, comes_before}
 
+-- the place of a cause: its file, section and offset
+abbrev pub spot_in : Refusal → ℕ → ℕ → ℕ → Spot
+spot_in r file section offset = record { refusal = r; file = file; section = section; offset = offset }
+
+-- of file 0
 abbrev pub spot_of : Refusal → ℕ → ℕ → Spot
-spot_of r j x = record { refusal = r; file = 0; section = j; offset = x }
+spot_of r section offset = spot_in r 0 section offset
 
 -- a section of code at whose beginning nothing of a kind begins
 abbrev pub unmapped_spot : Option RangeKind → ℕ → Section → Option Spot

@@ -15,10 +15,11 @@ use Rattle.elf_model.specs.declared.refusals.Deny.TheVariants.{NoMemory, Refused
 use Rattle.elf_model.specs.Refusals.{number_of}
 use Rattle.elf_model.specs.Objects.{ObjectParts, is_section}
 use Rattle.elf_model.specs.Canonical.{round_up}
+use Rattle.code_ranges.specs.Spots.{spot_in}
 use Rattle.thumb_table.specs.declared.placements.Placement.{Placement}
 use Rattle.thumb_table.specs.Layouts.{data_bytes_of}
 use Rattle.thumb_table.specs.Names.{Defined, numbered, all_symbols, globals}
-use Rattle.thumb_table.specs.LinkFaults.{spot_of, IsSecond, home_section, LinkFault, comes_before, IsLinkRefusal, IsLinkDenial}
+use Rattle.thumb_table.specs.LinkFaults.{IsSecond, home_section, LinkFault, refused_before, IsLinkRefusal, IsLinkDenial}
 use Rattle.thumb_table.specs.LinkFaults.LinkFault.{misplaced, undefined, defined_twice, long_code, long_data, high_end, out_of_range}
 use Rattle.thumb_table.proofs.PlainImages.{one_plain, no_reloc, no_link}
 use Rattle.flat_link.specs.declared.places.Sort.TheVariants.{Code, Data}
@@ -55,30 +56,30 @@ second_there o k s e y =
 later : (n m f j i x : ℕ) → m ≤ n → (n ≡ m → i ≤ j) → (nat_lt n m || ((n == m) && (nat_lt f 0 || ((f == 0) && (nat_lt j i || ((j == i) && nat_lt x 0)))))) ≡ false
 later n m f j i x high low = grind (arith, nat_tests)
 
-in_file_0 : (r : Refusal) (section : ℕ) (s : Spot) → number_of r ≤ number_of s.refusal → (number_of s.refusal ≡ number_of r → section ≤ s.section) → comes_before s (spot_of r 0 section 0) ≡ false
+in_file_0 : (r : Refusal) (section : ℕ) (s : Spot) → number_of r ≤ number_of s.refusal → (number_of s.refusal ≡ number_of r → section ≤ s.section) → refused_before s (spot_in r 0 section 0) ≡ false
 in_file_0 r section s high low = later (number_of s.refusal) (number_of r) s.file s.section section s.offset high low
 
 -- nothing comes before the lowest second definition
 not_before : (o : ObjectParts) (at : Placement) (section number : ℕ) → o.relocs ≡ [] → IsLowest o.symbols (length o.symbols) section number
-    → (s : Spot) → LinkFault (o ∷ []) at s → comes_before s (spot_of (Duplicate number) 0 section 0) ≡ false
+    → (s : Spot) → LinkFault (o ∷ []) at s → refused_before s (spot_in (Duplicate number) 0 section 0) ≡ false
 not_before o at section number plain low _ (misplaced i k q r is wrong) = absurd (no_reloc (o ∷ []) at (one_plain o plain) i k q r is)
 not_before o at section number plain low _ (undefined i k r names first) = absurd (no_reloc (o ∷ []) at (one_plain o plain) i k names.object r names.there)
 not_before o at section number plain low _ (defined_twice d second first) =
     let s = second_is o d second in
     let z = low.lowest d.index d.symbol (slice_get_within o.symbols d.index d.symbol s.0.there) s.0.there s.1 in
-    in_file_0 (Duplicate number) section (spot_of (Duplicate d.index) d.object (home_section d.symbol.home) 0) (omega arith) (λ e. lowest z)
+    in_file_0 (Duplicate number) section (spot_in (Duplicate d.index) d.object (home_section d.symbol.home) 0) (omega arith) (λ e. lowest z)
   where
     lowest : (section < home_section d.symbol.home) ⊎ ((section ≡ home_section d.symbol.home) × (number ≤ d.index)) → section ≤ home_section d.symbol.home
     lowest (inl l) = omega arith
     lowest (inr p) = let e = p.0 in omega arith
-not_before o at section number plain low _ (long_code x) = in_file_0 (Duplicate number) section (spot_of DoesNotFit 0 0 0) (omega arith) (λ e. absurd (omega arith))
-not_before o at section number plain low _ (long_data x) = in_file_0 (Duplicate number) section (spot_of DoesNotFit 0 0 0) (omega arith) (λ e. absurd (omega arith))
-not_before o at section number plain low _ (high_end x) = in_file_0 (Duplicate number) section (spot_of DoesNotFit 0 0 0) (omega arith) (λ e. absurd (omega arith))
+not_before o at section number plain low _ (long_code x) = in_file_0 (Duplicate number) section (spot_in DoesNotFit 0 0 0) (omega arith) (λ e. absurd (omega arith))
+not_before o at section number plain low _ (long_data x) = in_file_0 (Duplicate number) section (spot_in DoesNotFit 0 0 0) (omega arith) (λ e. absurd (omega arith))
+not_before o at section number plain low _ (high_end x) = in_file_0 (Duplicate number) section (spot_in DoesNotFit 0 0 0) (omega arith) (λ e. absurd (omega arith))
 not_before o at section number plain low _ (out_of_range l is far) = absurd (no_link (o ∷ []) at (one_plain o plain) l is)
 
-lowest_fault : (o : ObjectParts) (at : Placement) (section number : ℕ) → IsLowest o.symbols (length o.symbols) section number → LinkFault (o ∷ []) at (spot_of (Duplicate number) 0 section 0)
+lowest_fault : (o : ObjectParts) (at : Placement) (section number : ℕ) → IsLowest o.symbols (length o.symbols) section number → LinkFault (o ∷ []) at (spot_in (Duplicate number) 0 section 0)
 lowest_fault o at section number low =
-    subst (λ (n : ℕ). LinkFault (o ∷ []) at (spot_of (Duplicate number) 0 n 0)) (sym low.home)
+    subst (λ (n : ℕ). LinkFault (o ∷ []) at (spot_in (Duplicate number) 0 n 0)) (sym low.home)
     (defined_twice (defined_at 0 number low.symbol) (second_there o number low.symbol low.there low.second) first)
   where
     first : (e : Defined) → IsSecond (o ∷ []) e → e.object ≡ 0 → home_section e.symbol.home ≡ home_section low.symbol.home → number ≤ e.index
@@ -90,16 +91,16 @@ lowest_fault o at section number low =
         go (inl l) = let h = low.home in absurd (omega arith)
         go (inr p) = p.1
 
-refused_at : (o : ObjectParts) (at : Placement) (spot other : Spot) → spot ≡ other → LinkFault (o ∷ []) at other → ((s : Spot) → LinkFault (o ∷ []) at s → comes_before s other ≡ false) → IsLinkRefusal (o ∷ []) at spot
+refused_at : (o : ObjectParts) (at : Placement) (spot other : Spot) → spot ≡ other → LinkFault (o ∷ []) at other → ((s : Spot) → LinkFault (o ∷ []) at s → refused_before s other ≡ false) → IsLinkRefusal (o ∷ []) at spot
 refused_at o at spot other e fault first = subst (λ (s : Spot). IsLinkRefusal (o ∷ []) at s) (sym e) (record { fault = fault; first = first })
 
 duplicate_is : (o : ObjectParts) (at : Placement) (spot : Spot) → o.relocs ≡ [] → IsDuplicate o.symbols spot → IsLinkRefusal (o ∷ []) at spot
 duplicate_is o at spot plain h =
-    refused_at o at spot (spot_of (Duplicate h.number) 0 spot.section 0) (λ i. record { refusal = h.refusal i; file = h.file i; section = spot.section; offset = h.offset i })
+    refused_at o at spot (spot_in (Duplicate h.number) 0 spot.section 0) (λ i. record { refusal = h.refusal i; file = h.file i; section = spot.section; offset = h.offset i })
     (lowest_fault o at spot.section h.number h.lowest) (not_before o at spot.section h.number plain h.lowest)
 
 -- where it does not fit, something is too long
-long_fault : (o : ObjectParts) (at : Placement) → list_all is_section o.sections ≡ true → can_fit o.sections at ≡ false → LinkFault (o ∷ []) at (spot_of DoesNotFit 0 0 0)
+long_fault : (o : ObjectParts) (at : Placement) → list_all is_section o.sections ≡ true → can_fit o.sections at ≡ false → LinkFault (o ∷ []) at (spot_in DoesNotFit 0 0 0)
 long_fault o at ok h =
     let code = nat_le (end_of Code at.base o.sections) (at.base + at.room) in
     let memory = nat_le (round_up (end_of Data (at.base + at.room) o.sections - (at.base + at.room)) 8 + at.stack) 16777216 in
@@ -118,7 +119,7 @@ long_fault o at ok h =
       | inr x ↦ let y = leb-false (end_of Data (at.base + at.room) o.sections) 0x7FFFF000 x in high_end (omega arith)
     ]
 
-none_before : (o : ObjectParts) (at : Placement) → o.relocs ≡ [] → AreOnce o.symbols → (s : Spot) → LinkFault (o ∷ []) at s → comes_before s (spot_of DoesNotFit 0 0 0) ≡ false
+none_before : (o : ObjectParts) (at : Placement) → o.relocs ≡ [] → AreOnce o.symbols → (s : Spot) → LinkFault (o ∷ []) at s → refused_before s (spot_in DoesNotFit 0 0 0) ≡ false
 none_before o at plain once _ (misplaced i k q r is wrong) = absurd (no_reloc (o ∷ []) at (one_plain o plain) i k q r is)
 none_before o at plain once _ (undefined i k r names first) = absurd (no_reloc (o ∷ []) at (one_plain o plain) i k names.object r names.there)
 none_before o at plain once _ (defined_twice d second first) = absurd (no_second o once d second)
@@ -129,7 +130,7 @@ none_before o at plain once _ (out_of_range l is far) = absurd (no_link (o ∷ [
 
 long_is : (o : ObjectParts) (at : Placement) (spot : Spot) → list_all is_section o.sections ≡ true → o.relocs ≡ [] → IsTooLong o.sections o.symbols at spot → IsLinkRefusal (o ∷ []) at spot
 long_is o at spot ok plain h =
-    refused_at o at spot (spot_of DoesNotFit 0 0 0) (λ i. record { refusal = h.refusal i; file = h.file i; section = h.section i; offset = h.offset i })
+    refused_at o at spot (spot_in DoesNotFit 0 0 0) (λ i. record { refusal = h.refusal i; file = h.file i; section = h.section i; offset = h.offset i })
     (long_fault o at ok h.long) (none_before o at plain h.once)
 
 pub denial_is : (o : ObjectParts) (at : Placement) (why : Deny) → list_all is_section o.sections ≡ true → o.relocs ≡ [] → IsOneDenial o.sections o.symbols at why → IsLinkDenial (o ∷ []) at why

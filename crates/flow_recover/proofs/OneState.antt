@@ -11,7 +11,7 @@ use Rattle.thumb_instr.specs.declared.conditions.Cond.{Cond}
 use Rattle.thumb_instr.specs.declared.instructions.Instr.{Instr}
 use Rattle.thumb_instr.specs.declared.instructions.Instr.TheVariants as instr
 use Rattle.thumb_instr.specs.declared.refusals.BadInstr.TheVariants.{Unknown}
-use Rattle.thumb_instr.specs.Blocks.{it_state, it_after, number_of}
+use Rattle.thumb_instr.specs.Blocks.{it_state, it_after, condition_number}
 use Rattle.thumb_instr.specs.Fields.{ItFields}
 use Rattle.thumb_instr.specs.Rows.{Answer}
 use Rattle.flow_recover.specs.declared.nodes.Node.{Node}
@@ -62,9 +62,9 @@ low_bits m =
     ]
 
 pub state_length : (c : Cond) (mask : ℕ) → block_length (it_state c mask) ≡ block_length mask
-state_length c mask = go (16 * number_of c + mask) refl
+state_length c mask = go (16 * condition_number c + mask) refl
   where
-    go : (it : ℕ) → 16 * number_of c + mask ≡ it → block_length it ≡ block_length mask
+    go : (it : ℕ) → 16 * condition_number c + mask ≡ it → block_length it ≡ block_length mask
     go it e =
         elim (low_bits mask) [
           | inl r ↦ four_long it (omega arith) ∙ sym (four_long mask r)

@@ -1,7 +1,6 @@
 //! Kinds of relocations, and the instructions that they are of.
 
 ghost use Rattle.std.specs.Prelude.{◌≡◌};
-ghost use Rattle.elf_model.specs.Objects.{place_width as width_of};
 ghost use Rattle.reloc_places.specs.Relocations.{may_fail as may_fail_on, is_word as is_word_kind, is_jump as is_jump_kind, is_half as is_half_kind, is_bl as is_bl_instr, is_b as is_b_instr, is_mov as is_mov_instr, fits_kind as kind_fits};
 
 use elf_model::RelocKind;
@@ -51,13 +50,6 @@ pub fn is_half(kind: RelocKind) -> bool
         RelocKind::MovtAbs => true,
         _ => false,
     }
-}
-
-/// How many bytes a relocation changes.
-pub fn place_width(kind: RelocKind) -> u32
-    ensures { result ≡ width_of kind }
-{
-    kind.width()
 }
 
 /// BL.

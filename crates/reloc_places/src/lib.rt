@@ -13,7 +13,7 @@ mod values;
 
 pub use addends::addend;
 pub use instructions::{bytes_of, decode_at, instr_at, length_at, length_from, state_behind};
-pub use kinds::{is_half, is_jump, is_word, may_fail, place_width};
+pub use kinds::{is_half, is_jump, is_word, may_fail};
 pub use laws::{long_kinds_are_long, numbers_are_right_in_blocks};
 pub use relocations::{Placed, relocs_by_place};
 pub use starts::{code_starts, data_words, function_places};

@@ -8,7 +8,6 @@ ghost use Rattle.code_ranges.specs.Spans.{place_cmp};
 ghost use Rattle.reloc_places.specs.Placement.{end_in as end_of_reach, reach_with as reach_and, MayStand};
 ghost use Rattle.reloc_places.specs.Tables.{AreStarts, AreWords, AreRelocs};
 
-use crate::kinds::place_width;
 use crate::places::{is_place, is_straight};
 use elf_model::{Limit, Object, Reloc};
 use std::alloc::{AllocError, Global};
@@ -43,7 +42,7 @@ fn end_in(reach: Reach, section: u32) -> u64
 fn reach_with(reach: Reach, r: &Reloc) -> Reach
     ensures { result ≡ reach_and reach r.now }
 {
-    let end = u64::from(r.offset) + u64::from(place_width(r.kind));
+    let end = u64::from(r.offset) + u64::from(r.kind.width());
     Reach {
         section: r.section,
         end: end.max(end_in(reach, r.section)),

@@ -23,7 +23,8 @@ use Rattle.thumb_instr.specs.Idempotence.{KeepsSources, fills_in}
 use Rattle.thumb_instr.specs.Rows.{decode}
 use Rattle.thumb_instr.proofs.Decoded.{decode_formed}
 use Rattle.seq_core.specs.declared.classes.Class.TheVariants.{ThroughFlags, LongSum, WriteBack}
-use Rattle.seq_core.specs.Needs.{one_if, read_destinations}
+use Rattle.mark_word.specs.Formulas.{one_if}
+use Rattle.seq_core.specs.Needs.{read_destinations}
 use Rattle.seq_core.specs.Accepted.{adds, misplaces_stack, operand_names_stack}
 use Rattle.seq_core.specs.Sent.{sent, unless}
 use Rattle.seq_core.specs.Sequences.{Carries, Settles}

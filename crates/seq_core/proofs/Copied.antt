@@ -12,7 +12,7 @@ use Rattle.thumb_instr.specs.Sets.{reads_of, writes_of, sets_flags_of}
 use Rattle.thumb_table.specs.declared.faults.FaultKind.TheVariants as fault
 use Rattle.thumb_table.specs.States.{Core, Change, Outcome, Falls, applied, read, is_askew, upright, unchanged}
 use Rattle.thumb_table.specs.Values.{wrapped, is_negative}
-use Rattle.thumb_table.specs.Effects.{change, value, writing, registers, on_words, bytes_of, lowest, transferred, and_next, lies_in, accessed}
+use Rattle.thumb_table.specs.Effects.{change, value, writing, registers, on_words, transfer_size, lowest, transferred, and_next, lies_in, accessed}
 use Rattle.thumb_table.specs.Steps.{goes_on}
 use Rattle.seq_core.specs.Meanings.{meant, nowhere}
 use Rattle.seq_core.specs.Does.{Begins}
@@ -111,7 +111,7 @@ loading_apart down n list h = record {
 loading_by : (down : Bool) (n q : ℕ) (list : RegSet) (x y : Core) → value x q ≡ value y n → x.memory ≡ y.memory → done (loading down q list) x ≡ done (loading down n list) y
 unfolding meant change
 loading_by down n q list x y v m =
-    let bytes : ℕ = bytes_of list.0 false in
+    let bytes : ℕ = transfer_size list.0 false in
     ap (λ a. on_words x.memory (lowest down a bytes) bytes (and_next (upright (transferred true (lowest down a bytes) (registers list.0) x)) (λ h. Ok h))) v
     ∙ ap (λ m. on_words m (lowest down (value y n) bytes) bytes (and_next (upright (transferred true (lowest down (value y n) bytes) (registers list.0) (record y { memory = m }))) (λ h. Ok h))) m
 

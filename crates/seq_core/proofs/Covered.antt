@@ -21,7 +21,7 @@ use Rattle.thumb_instr.specs.Sets.{writes_of, sets_flags_of, is_store, moves_bas
 use Rattle.thumb_table.specs.Parts.{Memory}
 use Rattle.thumb_table.specs.States.{Core, Site, Change, Outcome, Jumps, upright, unchanged}
 use Rattle.thumb_table.specs.Values.{Given, Computed, computed, tested}
-use Rattle.thumb_table.specs.Effects.{change, value, operand, with_flags, with_sign, writing, accessed, base_write, after_base, loaded, transferred, pair_place, base_moved, and_next, jump_if, jump_to, branch_if, registers, link, two_words, address_of, lowest, bytes_of}
+use Rattle.thumb_table.specs.Effects.{change, value, operand, with_flags, with_sign, writing, accessed, base_write, after_base, loaded, transferred, pair_place, base_moved, and_next, jump_if, jump_to, branch_if, registers, link, two_words, access_address, lowest, transfer_size}
 use Rattle.thumb_instr.specs.Formed.{IsFormed}
 use Rattle.seq_core.specs.Reading.{is_written, Covers}
 use Rattle.seq_core.proofs.Written.{upright_is, ok_is, passed, words_passed, flags_regs, sign_regs, test_sum, pair_base}
@@ -203,7 +203,7 @@ quiet i g h k f e = covers i g h k (record { n = λ e. let p = f 16 in cc; z = �
 access_covers : (i : AccessFields) (s : Site) (x : Core) (h : Change) → change (Access i) s x ≡ Ok h → Covers (Access i) h
 unfolding change writes_of sets_flags_of
 access_covers i s x h e =
-    let a : ℕ = address_of i.n i.place x in
+    let a : ℕ = access_address i.n i.place x in
     let base : List (ℕ × Word) = base_write i.n i.place x in
     let moves : Change = accessed i.op i.t a x in
     quiet (Access i) (after_base base moves) h
@@ -218,7 +218,7 @@ pair_covers : (i : PairFields) (s : Site) (x : Core) (h : Change) → change (Pa
 unfolding change writes_of sets_flags_of
 pair_covers i s x h e =
     let place : Place = pair_place i.index i.up i.imm in
-    let a : ℕ = address_of i.n place x in
+    let a : ℕ = access_address i.n place x in
     let base : List (ℕ × Word) = base_write i.n place x in
     let moves : Change = transferred i.load a (i.t ∷ i.u ∷ []) x in
     quiet (Pair i) (after_base base moves) h
@@ -235,7 +235,7 @@ pair_covers i s x h e =
 multi_covers : (i : MultiFields) (s : Site) (x : Core) (h : Change) → change (Multi i) s x ≡ Ok h → Covers (Multi i) h
 unfolding change writes_of sets_flags_of
 multi_covers i s x h e =
-    let bytes : ℕ = bytes_of i.list.0 i.pc in
+    let bytes : ℕ = transfer_size i.list.0 i.pc in
     let a : ℕ = lowest i.down (value x i.n) bytes in
     let base : List (ℕ × Word) = base_moved i.back i.down i.n (value x i.n) bytes in
     let moves : Change = transferred i.load a (registers i.list.0) x in

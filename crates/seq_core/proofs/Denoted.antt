@@ -4,7 +4,7 @@ use Rattle.thumb_instr.specs.declared.instructions.Instr.{Instr}
 use Rattle.thumb_instr.specs.declared.instructions.Instr.TheVariants as instr
 use Rattle.thumb_table.specs.Parts.{CodeBytes}
 use Rattle.thumb_table.specs.States.{Core, Site, upright}
-use Rattle.thumb_table.specs.Effects.{change, number, literal_base}
+use Rattle.thumb_table.specs.Effects.{change, plain_write, literal_base}
 use Rattle.thumb_table.specs.Values.{moved}
 use Rattle.seq_core.specs.declared.steps.Step.{Step}
 use Rattle.seq_core.specs.Meanings.{Ends, meant}
@@ -16,9 +16,9 @@ use Rattle.seq_core.proofs.Halves.{half_placed_is_done}
 use Rattle.seq_core.proofs.Law.{sequences_work}
 use Rattle.seq_core.proofs.Once.{sequences_work_once}
 
-address_is : (s : Site) (d imm place : ℕ) (x : Core) → moved true (literal_base s) imm ≡ place + 1 → change (instr.Adr (record { d = d; up = true; imm = imm })) s x ≡ upright (number d (place + 1))
+address_is : (s : Site) (d imm place : ℕ) (x : Core) → moved true (literal_base s) imm ≡ place + 1 → change (instr.Adr (record { d = d; up = true; imm = imm })) s x ≡ upright (plain_write d (place + 1))
 unfolding change
-address_is s d imm place x e = ap (λ v. upright (number d v)) e
+address_is s d imm place x e = ap (λ v. upright (plain_write d v)) e
 
 literal_is : (t imm imm' : ℕ) (up up' : Bool) (e : Ends) (x : Core) → meant (instr.Literal (record { t = t; up = up; imm = imm })) e x ≡ meant (instr.Literal (record { t = t; up = up'; imm = imm' })) e x
 unfolding meant

@@ -19,7 +19,7 @@ use Rattle.mark_word.specs.Marks.{pieces}
 use Rattle.thumb_table.specs.Parts.{Memory}
 use Rattle.thumb_table.specs.States.{Core, read, Change, Outcome, Jumps, Site, is_askew, unchanged, upright}
 use Rattle.thumb_table.specs.Values.{Computed}
-use Rattle.thumb_table.specs.Effects.{change, value, with_flags, with_sign, writing, accessed, after_base, base_write, transferred, base_moved, on_words, and_next, jump_if, jump_to, lies_in, registers, lowest, bytes_of, address_of, size_of, pair_place, word_at, two_words, link, from, stored}
+use Rattle.thumb_table.specs.Effects.{change, value, with_flags, with_sign, writing, accessed, after_base, base_write, transferred, base_moved, on_words, and_next, jump_if, jump_to, lies_in, registers, lowest, transfer_size, access_address, size_of, pair_place, word_at, two_words, link, from, stored}
 use Rattle.seq_core.specs.Meanings.{Ends, meant, nowhere}
 use Rattle.seq_core.specs.Reading.{SameReads, IsWithin, stores}
 use Rattle.seq_core.specs.Apart.{goes_on_always}
@@ -132,13 +132,13 @@ accessed_unseen Strh t a x m e = refl
 access_unseen : (i : AccessFields) (s : Site) (x : Core) (m : Memory) → is_store i.op ≡ true → m.base ≡ x.memory.base → length m.cells ≡ length x.memory.cells → change (Access i) s (with_memory x m) ≡ change (Access i) s x
 unfolding change
 access_unseen i s x m e b l =
-    let a : ℕ = address_of i.n i.place x in
-    let p : address_of i.n i.place (with_memory x m) ≡ a = place_unseen i.n i.place x m in
+    let a : ℕ = access_address i.n i.place x in
+    let p : access_address i.n i.place (with_memory x m) ≡ a = place_unseen i.n i.place x m in
     let q : base_write i.n i.place (with_memory x m) ≡ base_write i.n i.place x = base_unseen i.n i.place x m in
     ap₃ (λ t a ws. if t then upright (after_base ws (accessed i.op i.t a (with_memory x m))) else Err BadAddress) (ap (λ a. lies_in m a (size_of i.op)) p ∙ lies_same m x.memory a (size_of i.op) b l) p q
     ∙ ap (λ g. if lies_in x.memory a (size_of i.op) then upright (after_base (base_write i.n i.place x) g) else Err BadAddress) (accessed_unseen i.op i.t a x m e)
   where
-    place_unseen : (n : ℕ) (l : Place) (x : Core) (m : Memory) → address_of n l (with_memory x m) ≡ address_of n l x
+    place_unseen : (n : ℕ) (l : Place) (x : Core) (m : Memory) → access_address n l (with_memory x m) ≡ access_address n l x
     place_unseen n (Offset up imm) x m = refl
     place_unseen n (Pre up imm) x m = refl
     place_unseen n (Post up imm) x m = refl
@@ -167,22 +167,22 @@ pair_unseen i s x m e b l = go i.index
   where
     go : (index : PairIndex) → change (Pair (record i { index = index })) s (with_memory x m) ≡ change (Pair (record i { index = index })) s x
     go index.Offset =
-        let a : ℕ = address_of i.n (Offset i.up i.imm) x in
+        let a : ℕ = access_address i.n (Offset i.up i.imm) x in
         words_same m x.memory a 8 (upright (after_base [] (transferred i.load a (i.t ∷ i.u ∷ []) (with_memory x m)))) b l
         ∙ ap (λ g. on_words x.memory a 8 (upright (after_base [] g))) (transferred_unseen i.load x m a (i.t ∷ i.u ∷ []) e)
     go index.Pre =
-        let a : ℕ = address_of i.n (Pre i.up i.imm) x in
+        let a : ℕ = access_address i.n (Pre i.up i.imm) x in
         words_same m x.memory a 8 (upright (after_base (base_write i.n (Pre i.up i.imm) x) (transferred i.load a (i.t ∷ i.u ∷ []) (with_memory x m)))) b l
         ∙ ap (λ g. on_words x.memory a 8 (upright (after_base (base_write i.n (Pre i.up i.imm) x) g))) (transferred_unseen i.load x m a (i.t ∷ i.u ∷ []) e)
     go index.Post =
-        let a : ℕ = address_of i.n (Post i.up i.imm) x in
+        let a : ℕ = access_address i.n (Post i.up i.imm) x in
         words_same m x.memory a 8 (upright (after_base (base_write i.n (Post i.up i.imm) x) (transferred i.load a (i.t ∷ i.u ∷ []) (with_memory x m)))) b l
         ∙ ap (λ g. on_words x.memory a 8 (upright (after_base (base_write i.n (Post i.up i.imm) x) g))) (transferred_unseen i.load x m a (i.t ∷ i.u ∷ []) e)
 
 multi_unseen : (i : MultiFields) (s : Site) (x : Core) (m : Memory) → not i.load ≡ true → not i.pc ≡ true → m.base ≡ x.memory.base → length m.cells ≡ length x.memory.cells → change (Multi i) s (with_memory x m) ≡ change (Multi i) s x
 unfolding change
 multi_unseen i s x m e p b l =
-    let bytes : ℕ = bytes_of i.list.0 i.pc in
+    let bytes : ℕ = transfer_size i.list.0 i.pc in
     let a : ℕ = lowest i.down (value x i.n) bytes in
     let ws : List (ℕ × Word) = base_moved i.back i.down i.n (value x i.n) bytes in
     words_same m x.memory a bytes (and_next (upright (after_base ws (transferred i.load a (registers i.list.0) (with_memory x m)))) (λ h. jump_if i.pc (word_at m (a + 4 * length (registers i.list.0))).word.bits h)) b l
@@ -277,13 +277,13 @@ change_never_traps (MulAcc i) s x g e = one_never i.d _ e
 change_never_traps (LongMul i) s x g e = upright_never (two_words i.lo i.hi _) e
 change_never_traps (Div i) s x g e = one_never i.d _ e
 change_never_traps (Adr i) s x g e = one_never i.d _ e
-change_never_traps (Access i) s x g e = access_never _ _ (upright_never (after_base (base_write i.n i.place x) (accessed i.op i.t (address_of i.n i.place x) x))) e
+change_never_traps (Access i) s x g e = access_never _ _ (upright_never (after_base (base_write i.n i.place x) (accessed i.op i.t (access_address i.n i.place x) x))) e
 change_never_traps (Literal i) s x g e = access_never _ _ (one_never i.t _) e
 change_never_traps (Pair i) s x g e =
     let p = pair_place i.index i.up i.imm in
-    words_never _ _ _ (upright_never (after_base (base_write i.n p x) (transferred i.load (address_of i.n p x) (i.t ∷ i.u ∷ []) x))) e
+    words_never _ _ _ (upright_never (after_base (base_write i.n p x) (transferred i.load (access_address i.n p x) (i.t ∷ i.u ∷ []) x))) e
 change_never_traps (Multi i) s x g e =
-    let bytes = bytes_of i.list.0 i.pc in
+    let bytes = transfer_size i.list.0 i.pc in
     words_never _ _ _ (next_never _ i.pc _ (upright_never (after_base (base_moved i.back i.down i.n (value x i.n) bytes) (transferred i.load (lowest i.down (value x i.n) bytes) (registers i.list.0) x)))) e
 change_never_traps (Test i) s x g e = ok_never _ e
 change_never_traps (Branch i) s x g e = ok_never _ e

@@ -11,7 +11,8 @@ use Rattle.thumb_instr.specs.Idempotence.{KeepsSources}
 use Rattle.seq_core.specs.declared.classes.Class.{Class}
 use Rattle.seq_core.specs.declared.classes.Class.TheVariants.{Through, WriteBack, BaseCopy, Push, Pop, PopReturn, MultiBack, RegisterCall}
 use Rattle.seq_core.specs.Classes.{IsOf, names, loads_own_base, pushes, pops}
-use Rattle.seq_core.specs.Needs.{one_if, calls_link, read_destinations, ThroughNeeds, NeedsFit}
+use Rattle.mark_word.specs.Formulas.{one_if}
+use Rattle.seq_core.specs.Needs.{calls_link, read_destinations, ThroughNeeds, NeedsFit}
 
 one_at_most : (b : Bool) → one_if b ≤ 1
 one_at_most true = lit≤ tt

@@ -13,7 +13,7 @@ use Rattle.thumb_instr.specs.Fields.{AluFields, TestFields, ShiftByFields, WideF
 use Rattle.thumb_instr.specs.Sets.{reads_of, operand_reads_of, sums_with_carry}
 use Rattle.thumb_table.specs.States.{Core, Site, upright, unchanged}
 use Rattle.thumb_table.specs.Values.{computed, tested, wrapped, moved, unary, rotated, long_product, signed_quotient, quotient}
-use Rattle.thumb_table.specs.Effects.{change, value, operand, with_flags, with_carry, with_sign, number, shift_given, wide_value, field_value, source, two_words}
+use Rattle.thumb_table.specs.Effects.{change, value, operand, with_flags, with_carry, with_sign, plain_write, shift_given, wide_value, field_value, source, two_words}
 use Rattle.thumb_table.specs.Ordinary.{in_operand, in_source, in_field, in_sum}
 use Rattle.seq_core.proofs.Tests.{there, left, both_true, ap₂, ap₃}
 use Rattle.seq_core.proofs.Values.{SameNumbers, operand_same, computed_same}
@@ -25,7 +25,7 @@ Sees i l = (s u : Site) (x y : Core) → SameNumbers l x y → (reads_of i 18 �
 pub alu_sees : (i : AluFields) → Sees (Alu i) (i.n ∷ in_operand i.x)
 unfolding change reads_of
 alu_sees i s u x y v c =
-    ap (λ r. upright (with_flags i.s r (number i.d r.value)))
+    ap (λ r. upright (with_flags i.s r (plain_write i.d r.value)))
     (ap₂ (λ n o. computed i.op n o x.c) v.0 (operand_same i.x x y v.1 (λ e. c (there (18 == i.n) _ (left _ _ e))))
     ∙ computed_same i.op (value y i.n) (operand i.x y) x.c y.c (λ e. c (there (18 == i.n) _ (there (operand_reads_of i.x 18) _ (both_true _ true e refl)))))
 
@@ -45,12 +45,12 @@ test_sees i s u x y v c =
 pub shift_by_sees : (i : ShiftByFields) → Sees (ShiftBy i) (i.n ∷ i.m ∷ [])
 unfolding change
 shift_by_sees i s u x y v c =
-    ap (λ r. upright (with_carry i.s r.value r.carry (number i.d r.value)))
+    ap (λ r. upright (with_carry i.s r.value r.carry (plain_write i.d r.value)))
     (ap₂ (λ n m. shift_given n i.kind (m % 256) false) v.0 v.1.0)
 
 pub wide_sees : (i : WideFields) → Sees (Wide i) (i.n ∷ [])
 unfolding change
-wide_sees i s u x y v c = ap (λ n. upright (number i.d (wide_value i.op n i.imm))) v.0
+wide_sees i s u x y v c = ap (λ n. upright (plain_write i.d (wide_value i.op n i.imm))) v.0
 
 source_same : (n : Option ℕ) (x y : Core) → SameNumbers (in_source n) x y → source n x ≡ source n y
 source_same None x y v = refl
@@ -64,19 +64,19 @@ field_same Bfc d n lsb width x y v = let f = v.0 in cc
 
 pub field_sees : (i : FieldFields) → Sees (Field i) (in_field i.op i.d i.n)
 unfolding change
-field_sees i s u x y v c = ap (λ r. upright (number i.d r)) (field_same i.op i.d i.n i.lsb i.width x y v)
+field_sees i s u x y v c = ap (λ r. upright (plain_write i.d r)) (field_same i.op i.d i.n i.lsb i.width x y v)
 
 pub unary_sees : (i : UnaryFields) → Sees (Unary i) (i.m ∷ [])
 unfolding change
-unary_sees i s u x y v c = ap (λ m. upright (number i.d (unary i.op (rotated m i.turn)))) v.0
+unary_sees i s u x y v c = ap (λ m. upright (plain_write i.d (unary i.op (rotated m i.turn)))) v.0
 
 pub mul_sees : (i : MulFields) → Sees (Mul i) (i.n ∷ i.m ∷ [])
 unfolding change
-mul_sees i s u x y v c = ap₂ (λ n m. upright (with_sign i.s (wrapped (n * m)) (number i.d (wrapped (n * m))))) v.0 v.1.0
+mul_sees i s u x y v c = ap₂ (λ n m. upright (with_sign i.s (wrapped (n * m)) (plain_write i.d (wrapped (n * m))))) v.0 v.1.0
 
 pub mul_acc_sees : (i : MulAccFields) → Sees (MulAcc i) (i.n ∷ i.m ∷ i.a ∷ [])
 unfolding change
-mul_acc_sees i s u x y v c = ap₃ (λ n m a. upright (number i.d (moved (not i.minus) a (wrapped (n * m))))) v.0 v.1.0 v.1.1.0
+mul_acc_sees i s u x y v c = ap₃ (λ n m a. upright (plain_write i.d (moved (not i.minus) a (wrapped (n * m))))) v.0 v.1.0 v.1.1.0
 
 product_same : (op : LongMulOp) (n m lo hi : ℕ) (x y : Core) → SameNumbers (in_sum op lo hi) x y → long_product op n m (value x hi * 2 ^ 32 + wrapped (value x lo)) ≡ long_product op n m (value y hi * 2 ^ 32 + wrapped (value y lo))
 product_same Smull n m lo hi x y v = refl
@@ -93,4 +93,4 @@ long_mul_sees i s u x y v c =
 
 pub div_sees : (i : DivFields) → Sees (Div i) (i.n ∷ i.m ∷ [])
 unfolding change
-div_sees i s u x y v c = ap₂ (λ n m. upright (number i.d (if i.signed then signed_quotient n m else quotient n m))) v.0 v.1.0
+div_sees i s u x y v c = ap₂ (λ n m. upright (plain_write i.d (if i.signed then signed_quotient n m else quotient n m))) v.0 v.1.0

@@ -8,7 +8,7 @@ use Rattle.thumb_table.specs.declared.faults.FaultKind.TheVariants.{BadAddress}
 use Rattle.elf_model.specs.Fields.{word_at}
 use Rattle.thumb_table.specs.States.{Core, Site, upright}
 use Rattle.thumb_table.specs.Values.{moved}
-use Rattle.thumb_table.specs.Effects.{literal_base, marked, mark_at, writing, change, value, branch_if, number}
+use Rattle.thumb_table.specs.Effects.{literal_base, marked, mark_at, writing, change, value, branch_if, plain_write}
 use Rattle.seq_core.specs.Meanings.{meant}
 use Rattle.seq_core.specs.Groups.{done, names_no_place, LiteralPlaced, Placed}
 
@@ -45,7 +45,7 @@ unfolding change meant
 placed_is_done site = record {
   branch = λ c o t x e. ap (λ t. Ok (branch_if (holds c x) t)) e;
   zero = λ nonzero n o t x e. ap (λ t. Ok (branch_if (if nonzero then not (value x n == 0) else value x n == 0) t)) e;
-  link = λ imm back x e. ap (λ v. upright (number 14 v)) e;
+  link = λ imm back x e. ap (λ v. upright (plain_write 14 v)) e;
   others = λ i x e. same_anywhere site i x e;
 }
 

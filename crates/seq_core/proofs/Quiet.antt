@@ -9,7 +9,7 @@ use Rattle.thumb_instr.specs.declared.instructions.Instr.TheVariants.{Alu, Move,
 use Rattle.thumb_instr.specs.Sets.{is_store}
 use Rattle.thumb_table.specs.States.{Core, Change, Outcome, Falls, Jumps, Site, unchanged, upright}
 use Rattle.thumb_table.specs.Values.{Computed}
-use Rattle.thumb_table.specs.Effects.{change, branch_if, value, with_flags, with_sign, writing, accessed, after_base, base_write, transferred, base_moved, and_next, jump_if, jump_to, registers, lowest, bytes_of, address_of, pair_place, word_at, two_words, link}
+use Rattle.thumb_table.specs.Effects.{change, branch_if, value, with_flags, with_sign, writing, accessed, after_base, base_write, transferred, base_moved, and_next, jump_if, jump_to, registers, lowest, transfer_size, access_address, pair_place, word_at, two_words, link}
 use Rattle.seq_core.specs.Reading.{stores, may_jump, IsQuiet}
 use Rattle.seq_core.specs.Apart.{goes_on_always}
 use Rattle.seq_core.proofs.Written.{upright_is, passed, words_passed, ok_is}
@@ -71,12 +71,12 @@ change_quiet (Mul i) s x h g m = quiet_upright false _ h (sign_quiet i.s _ _) m
 change_quiet (MulAcc i) s x h g m = one_quiet i.d _ h m
 change_quiet (LongMul i) s x h g m = quiet_upright false (two_words i.lo i.hi _) h (writing_quiet _) m
 change_quiet (Div i) s x h g m = one_quiet i.d _ h m
-change_quiet (Access i) s x h g m = quiet_upright (is_store i.op) _ h (accessed_quiet i.op i.t (address_of i.n i.place x) x (base_write i.n i.place x)) (passed _ _ _ h m)
+change_quiet (Access i) s x h g m = quiet_upright (is_store i.op) _ h (accessed_quiet i.op i.t (access_address i.n i.place x) x (base_write i.n i.place x)) (passed _ _ _ h m)
 change_quiet (Pair i) s x h g m =
     let p = pair_place i.index i.up i.imm in
-    quiet_upright (not i.load) _ h (transferred_quiet i.load (address_of i.n p x) (i.t ∷ i.u ∷ []) x (base_write i.n p x)) (words_passed x.memory _ _ _ h m)
+    quiet_upright (not i.load) _ h (transferred_quiet i.load (access_address i.n p x) (i.t ∷ i.u ∷ []) x (base_write i.n p x)) (words_passed x.memory _ _ _ h m)
 change_quiet (Multi i) s x h g m =
-    let bytes = bytes_of i.list.0 i.pc in
+    let bytes = transfer_size i.list.0 i.pc in
     quiet_upright (not i.load) _ h (transferred_quiet i.load (lowest i.down (value x i.n) bytes) (registers i.list.0) x (base_moved i.back i.down i.n (value x i.n) bytes))
     (not_jumped i.pc _ _ h g (words_passed x.memory _ _ _ h m))
 change_quiet (Literal i) s x h g m = one_quiet i.t _ h (passed _ _ _ h m)
@@ -136,7 +136,7 @@ quiet (Literal i) s x h m = on_quiet (Literal i) h (change_quiet (Literal i) s x
 quiet (Adr i) s x h m = on_quiet (Adr i) h (change_quiet (Adr i) s x h refl m)
 quiet (Nothing i) s x h m = on_quiet (Nothing i) h (change_quiet (Nothing i) s x h refl m)
 quiet (Multi i) s x h m =
-    let bytes = bytes_of i.list.0 i.pc in
+    let bytes = transfer_size i.list.0 i.pc in
     let a : ℕ = lowest i.down (value x i.n) bytes in
     let base : List (ℕ × Word) = base_moved i.back i.down i.n (value x i.n) bytes in
     let g : Change = after_base base (transferred i.load a (registers i.list.0) x) in

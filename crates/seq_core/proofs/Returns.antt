@@ -9,7 +9,7 @@ use Rattle.thumb_table.specs.declared.faults.FaultKind.TheVariants as fault
 use Rattle.thumb_table.specs.Parts.{Memory}
 use Rattle.thumb_table.specs.States.{Core, Change, Jumps, applied, is_askew, upright, unchanged, write_all}
 use Rattle.thumb_table.specs.Values.{wrapped, moved}
-use Rattle.thumb_table.specs.Effects.{change, value, writing, lies_in, and_next, jump_to, transferred, loaded, registers, bytes_of, word_at}
+use Rattle.thumb_table.specs.Effects.{change, value, writing, lies_in, and_next, jump_to, transferred, loaded, registers, transfer_size, word_at}
 use Rattle.seq_core.specs.Meanings.{meant, nowhere}
 use Rattle.seq_core.specs.Does.{SameBut, Effect}
 use Rattle.seq_core.specs.Sequences.{Leads, Reaches, Settles}
@@ -46,11 +46,11 @@ returned true true g bits h e = by_even (list_any is_askew g.regs) (bits % 2 == 
 
 return_parts : (list : RegSet) (y : Core) (h : Change) → done (returning list) y ≡ Ok h →
     let a : ℕ = wrapped (value y 13) in
-    Returned (lies_in y.memory a (bytes_of list.0 true)) (a % 4 == 0) (with_base 13 (moved true (value y 13) (bytes_of list.0 true)) (transferred true a (registers list.0) y)) (word_at y.memory (a + 4 * length (registers list.0))).word.bits h
+    Returned (lies_in y.memory a (transfer_size list.0 true)) (a % 4 == 0) (with_base 13 (moved true (value y 13) (transfer_size list.0 true)) (transferred true a (registers list.0) y)) (word_at y.memory (a + 4 * length (registers list.0))).word.bits h
 unfolding meant change
 return_parts list y h e =
     let a : ℕ = wrapped (value y 13) in
-    returned (lies_in y.memory a (bytes_of list.0 true)) (a % 4 == 0) (with_base 13 (moved true (value y 13) (bytes_of list.0 true)) (transferred true a (registers list.0) y)) (word_at y.memory (a + 4 * length (registers list.0))).word.bits h e
+    returned (lies_in y.memory a (transfer_size list.0 true)) (a % 4 == 0) (with_base 13 (moved true (value y 13) (transfer_size list.0 true)) (transferred true a (registers list.0) y)) (word_at y.memory (a + 4 * length (registers list.0))).word.bits h e
 
 return_calm : (list : RegSet) (y : Core) → done (returning list) y ≡ Err fault.Trap → ⊥
 unfolding meant
@@ -83,7 +83,7 @@ pop_return_is_done q k end list lr_list lt o is c = record {
   acts = λ y h b t made.
       let rs : List ℕ = registers list.0 in
       let a : ℕ = wrapped (value y 13) in
-      let bytes : ℕ = bytes_of list.0 true in
+      let bytes : ℕ = transfer_size list.0 true in
       let v : ℕ = moved true (value y 13) bytes in
       let w : Word = (word_at y.memory (a + 4 * length rs)).word in
       let p = return_parts list y h made in
@@ -92,8 +92,8 @@ pop_return_is_done q k end list lr_list lt o is c = record {
       let s = is_transfer true 13 q lr_list n14 o in
       let g : Change = transferred true a (registers lr_list.0) y in
       let count : length (rs ++ (14 ∷ [])) ≡ length rs + 1 = length-append rs (14 ∷ []) in
-      let enough : bytes_of list.0 true ≡ bytes_of lr_list.0 false = let l = ap (λ (r : List ℕ). length r) is in omega arith in
-      let lies : lies_in y.memory a (bytes_of lr_list.0 false) ≡ true = sym (ap (λ n. lies_in y.memory a n) enough) ∙ p.lies in
+      let enough : transfer_size list.0 true ≡ transfer_size lr_list.0 false = let l = ap (λ (r : List ℕ). length r) is in omega arith in
+      let lies : lies_in y.memory a (transfer_size lr_list.0 false) ≡ true = sym (ap (λ n. lies_in y.memory a n) enough) ∙ p.lies in
       let even_g = loaded_even y.memory a (registers lr_list.0) (outside lr_list 13 o.base) in
       let f = s.does a y y refl refl (each_map _ _ (registers lr_list.0) (λ r ne. refl) (outside lr_list 13 o.base)) lies p.aligned even_g in
       let on = base_behind_on true 13 q k bytes (transfer_at true 13 lr_list (registers lr_list.0)) y g beside c s.on s.apart s.unread refl b (alone (13, plain v) (transferred true a rs y).regs p.even) s.reads f in

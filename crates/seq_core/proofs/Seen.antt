@@ -23,7 +23,7 @@ use Rattle.thumb_table.specs.declared.faults.FaultKind.TheVariants as fault
 use Rattle.thumb_table.specs.States.{Core, Site, read, upright, unchanged}
 use Rattle.thumb_table.specs.Values.{inverted, away, wrapped}
 use Rattle.thumb_table.specs.Conditions.{holds, agree}
-use Rattle.thumb_table.specs.Effects.{change, value, operand, is_whole, moved_word, with_carry, writing, half_word, completed, mark_at, lies_in, address_of, base_write, size_of, accessed, word_at, from, loaded, stored, transferred, after_base, on_words, pair_place, bytes_of, lowest, base_moved, registers, and_next, jump_if, jump_to, branch_if, link}
+use Rattle.thumb_table.specs.Effects.{change, value, operand, is_whole, moved_word, with_carry, writing, half_word, completed, mark_at, lies_in, access_address, base_write, size_of, accessed, word_at, from, loaded, stored, transferred, after_base, on_words, pair_place, transfer_size, lowest, base_moved, registers, and_next, jump_if, jump_to, branch_if, link}
 use Rattle.seq_core.specs.Reading.{SameReads}
 use Rattle.seq_core.proofs.Tests.{here, there, left, both_true, same_number, ap₂, ap₃, ap₄}
 use Rattle.thumb_table.specs.Ordinary.{in_operand, in_field, in_sum, in_place}
@@ -56,7 +56,7 @@ moved_same Mov (Reg m kind amount) x y h e = ap₂ (λ w g. if is_whole kind amo
 moved_same Mvn o x y h e = ap (λ g. plain (inverted g.value)) e
 
 -- addresses and bases
-pub address_same : (n : ℕ) (l : Place) (x y : Core) → value x n ≡ value y n → SameNumbers (in_place l) x y → address_of n l x ≡ address_of n l y
+pub address_same : (n : ℕ) (l : Place) (x y : Core) → value x n ≡ value y n → SameNumbers (in_place l) x y → access_address n l x ≡ access_address n l y
 address_same n (Offset up imm) x y e h = cc
 address_same n (Pre up imm) x y e h = cc
 address_same n (Post up imm) x y e h = ap wrapped e
@@ -105,19 +105,19 @@ access_depends : (i : AccessFields) (s : Site) (x y : Core) → SameReads (Acces
 unfolding change reads_of
 access_depends i s x y h =
     let n : value x i.n ≡ value y i.n = bits_same (Access i) x y h i.n (here i.n _) in
-    let a : address_of i.n i.place x ≡ address_of i.n i.place y = address_same i.n i.place x y n (each_map _ _ (in_place i.place) (λ r e. bits_same (Access i) x y h r (there (r == i.n) _ (left _ _ e))) (place_read i.place)) in
+    let a : access_address i.n i.place x ≡ access_address i.n i.place y = address_same i.n i.place x y n (each_map _ _ (in_place i.place) (λ r e. bits_same (Access i) x y h r (there (r == i.n) _ (left _ _ e))) (place_read i.place)) in
     ap₄ (λ m a b q. if lies_in m a (size_of i.op) then upright (after_base b q) else Err fault.BadAddress) h.memory a (base_same i.n i.place x y n)
-    (ap (λ a. accessed i.op i.t a x) a ∙ accessed_same i.op i.t (address_of i.n i.place y) x y h.memory (λ e. h.regs i.t (there (i.t == i.n) _ (there (place_reads_of i.place i.t) _ (both_true _ _ e (same_number i.t))))))
+    (ap (λ a. accessed i.op i.t a x) a ∙ accessed_same i.op i.t (access_address i.n i.place y) x y h.memory (λ e. h.regs i.t (there (i.t == i.n) _ (there (place_reads_of i.place i.t) _ (both_true _ _ e (same_number i.t))))))
 
 pair_depends : (i : PairFields) (s : Site) (x y : Core) → SameReads (Pair i) x y → change (Pair i) s x ≡ change (Pair i) s y
 unfolding change reads_of
 pair_depends i s x y h =
     let n : value x i.n ≡ value y i.n = bits_same (Pair i) x y h i.n (here i.n _) in
     let p : Place = pair_place i.index i.up i.imm in
-    let a : address_of i.n p x ≡ address_of i.n p y = address_same i.n p x y n (pair_numbers i.index i.up i.imm x y) in
+    let a : access_address i.n p x ≡ access_address i.n p y = address_same i.n p x y n (pair_numbers i.index i.up i.imm x y) in
     ap₄ (λ m a b q. on_words m a 8 (upright (after_base b q))) h.memory a (base_same i.n p x y n)
     (ap (λ a. transferred i.load a (i.t ∷ i.u ∷ []) x) a
-    ∙ transferred_same i.load (address_of i.n p y) (i.t ∷ i.u ∷ []) x y h.memory (λ e. (
+    ∙ transferred_same i.load (access_address i.n p y) (i.t ∷ i.u ∷ []) x y h.memory (λ e. (
       h.regs i.t (there (i.t == i.n) _ (both_true _ _ (ap not e) (here i.t _))),
       (h.regs i.u (there (i.u == i.n) _ (both_true _ _ (ap not e) (there (i.u == i.t) _ (same_number i.u)))), tt),
     )))
@@ -126,7 +126,7 @@ multi_depends : (i : MultiFields) (s : Site) (x y : Core) → SameReads (Multi i
 unfolding change reads_of
 multi_depends i s x y h =
     let n : value x i.n ≡ value y i.n = bits_same (Multi i) x y h i.n (here i.n _) in
-    let bytes : ℕ = bytes_of i.list.0 i.pc in
+    let bytes : ℕ = transfer_size i.list.0 i.pc in
     ap₃ (λ m n q. on_words m (lowest i.down n bytes) bytes (and_next (upright (after_base (base_moved i.back i.down i.n n bytes) q)) (λ g. jump_if i.pc (word_at m (lowest i.down n bytes + 4 * length (registers i.list.0))).word.bits g)))
     h.memory n
     (ap (λ n. transferred i.load (lowest i.down n bytes) (registers i.list.0) x) n

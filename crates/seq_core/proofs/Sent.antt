@@ -17,7 +17,7 @@ use Rattle.thumb_instr.specs.Sets.{is_store, keeps_bits, accumulates}
 use Rattle.thumb_table.specs.declared.faults.FaultKind.TheVariants.{BadStack, BadAddress}
 use Rattle.thumb_table.specs.States.{Core, Site, Change, upright, unchanged, is_askew}
 use Rattle.thumb_table.specs.Values.{Computed, long_product, wrapped}
-use Rattle.thumb_table.specs.Effects.{change, value, with_flags, with_sign, writing, number, accessed, after_base, base_write, address_of, size_of, lies_in, half_word, field_value, two_words}
+use Rattle.thumb_table.specs.Effects.{change, value, with_flags, with_sign, writing, plain_write, accessed, after_base, base_write, access_address, size_of, lies_in, half_word, field_value, two_words}
 use Rattle.seq_core.specs.Sent.{destination, sent, last_to, redirected, low_redirected, first_to, unless}
 use Rattle.seq_core.proofs.Written.{upright_is}
 
@@ -84,10 +84,10 @@ field_sent Bfc d q n lsb width x e = cc
 
 access_sent : (i : AccessFields) (s : Site) (q : ℕ) (x : Core) (h : Change) → is_store i.op ≡ false → q < 13 → change (Access i) s x ≡ Ok h → change (Access (record i { t = q })) s x ≡ Ok (redirected q h)
 unfolding change
-access_sent i s q x h l lt e = go (lies_in x.memory (address_of i.n i.place x) (size_of i.op)) e
+access_sent i s q x h l lt e = go (lies_in x.memory (access_address i.n i.place x) (size_of i.op)) e
   where
-    go : (b : Bool) → (if b then upright (after_base (base_write i.n i.place x) (accessed i.op i.t (address_of i.n i.place x) x)) else Err BadAddress) ≡ Ok h → (if b then upright (after_base (base_write i.n i.place x) (accessed i.op q (address_of i.n i.place x) x)) else Err BadAddress) ≡ Ok (redirected q h)
-    go true k = upright_sent q _ _ h lt (accessed_sent i.op (base_write i.n i.place x) i.t q (address_of i.n i.place x) x l) k
+    go : (b : Bool) → (if b then upright (after_base (base_write i.n i.place x) (accessed i.op i.t (access_address i.n i.place x) x)) else Err BadAddress) ≡ Ok h → (if b then upright (after_base (base_write i.n i.place x) (accessed i.op q (access_address i.n i.place x) x)) else Err BadAddress) ≡ Ok (redirected q h)
+    go true k = upright_sent q _ _ h lt (accessed_sent i.op (base_write i.n i.place x) i.t q (access_address i.n i.place x) x l) k
     go false k = cc
 
 product_sent : (op : LongMulOp) (n m a b : ℕ) → accumulates op ≡ false → long_product op n m a ≡ long_product op n m b
@@ -104,7 +104,7 @@ half_sent i s q x h l lt e =
 
 field_goes : (i : FieldFields) (s : Site) (q : ℕ) (x : Core) (h : Change) → keeps_bits i.op ≡ false → q < 13 → change (Field i) s x ≡ Ok h → change (Field (record i { d = q })) s x ≡ Ok (redirected q h)
 unfolding change
-field_goes i s q x h l lt e = upright_sent q (number i.d (field_value i.op i.d i.n i.lsb i.width x)) (number q (field_value i.op q i.n i.lsb i.width x)) h lt (ap (λ v. number q v) (field_sent i.op i.d q i.n i.lsb i.width x l)) e
+field_goes i s q x h l lt e = upright_sent q (plain_write i.d (field_value i.op i.d i.n i.lsb i.width x)) (plain_write q (field_value i.op q i.n i.lsb i.width x)) h lt (ap (λ v. plain_write q v) (field_sent i.op i.d q i.n i.lsb i.width x l)) e
 
 product_goes : (i : LongMulFields) (s : Site) (q : ℕ) (x : Core) (h : Change) → accumulates i.op ≡ false → q < 13 → change (LongMul i) s x ≡ Ok h → change (LongMul (record i { hi = q })) s x ≡ Ok (redirected q h)
 unfolding change

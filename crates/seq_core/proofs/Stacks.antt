@@ -13,7 +13,7 @@ use Rattle.thumb_instr.specs.Sets.{reads_of, writes_of, sets_flags_of}
 use Rattle.thumb_table.specs.declared.faults.FaultKind.TheVariants as fault
 use Rattle.thumb_table.specs.States.{Core, Change, Outcome, applied, read, is_askew, upright, unchanged}
 use Rattle.thumb_table.specs.Values.{wrapped, moved}
-use Rattle.thumb_table.specs.Effects.{change, value, writing, lies_in, on_words, and_next, transferred, accessed, registers, bytes_of, from}
+use Rattle.thumb_table.specs.Effects.{change, value, writing, lies_in, on_words, and_next, transferred, accessed, registers, transfer_size, from}
 use Rattle.seq_core.specs.Meanings.{meant, nowhere}
 use Rattle.seq_core.specs.Apart.{goes_on_always, IsApart}
 use Rattle.seq_core.specs.Groups.{done, moving}
@@ -64,13 +64,13 @@ multi_reads load n list = here n _
 abbrev Sees : Core → Core → List ℕ → Type 0
 Sees x y rs = Each (λ r. read x r ≡ read y r) rs
 
-multi_step : (load : Bool) (n a : ℕ) (list : RegSet) (x y : Core) → wrapped (value x n) ≡ a → x.memory ≡ y.memory → Sees x y (registers list.0) → lies_in y.memory a (bytes_of list.0 false) ≡ true → (a % 4 == 0) ≡ true → list_any is_askew (transferred load a (registers list.0) y).regs ≡ false →
+multi_step : (load : Bool) (n a : ℕ) (list : RegSet) (x y : Core) → wrapped (value x n) ≡ a → x.memory ≡ y.memory → Sees x y (registers list.0) → lies_in y.memory a (transfer_size list.0 false) ≡ true → (a % 4 == 0) ≡ true → list_any is_askew (transferred load a (registers list.0) y).regs ≡ false →
     done (multi_at load n list) x ≡ Ok (transferred load a (registers list.0) y)
 unfolding meant change
 multi_step load n a list x y v m r l al e =
-    ap (λ a. on_words x.memory a (bytes_of list.0 false) (and_next (upright (transferred load a (registers list.0) x)) (λ h. Ok h))) v
-    ∙ ap (λ m. on_words m a (bytes_of list.0 false) (and_next (upright (transferred load a (registers list.0) x)) (λ h. Ok h))) m
-    ∙ goes_through y.memory a (bytes_of list.0 false) (and_next (upright (transferred load a (registers list.0) x)) (λ h. Ok h)) l al
+    ap (λ a. on_words x.memory a (transfer_size list.0 false) (and_next (upright (transferred load a (registers list.0) x)) (λ h. Ok h))) v
+    ∙ ap (λ m. on_words m a (transfer_size list.0 false) (and_next (upright (transferred load a (registers list.0) x)) (λ h. Ok h))) m
+    ∙ goes_through y.memory a (transfer_size list.0 false) (and_next (upright (transferred load a (registers list.0) x)) (λ h. Ok h)) l al
     ∙ ap (λ o. and_next o (λ h. Ok h)) (ap upright (transferred_same load a (registers list.0) x y m (λ e. r)) ∙ even_done (transferred load a (registers list.0) y) e)
 
 -- a list of one register
@@ -90,7 +90,7 @@ pub record IsTransfer (load : Bool) (n q : ℕ) (list : RegSet) (rs : List ℕ) 
   pub apart : IsApart (transfer_at load n list rs)
   pub unread : reads_of (transfer_at load n list rs) q ≡ false
   pub reads : reads_of (transfer_at load n list rs) n ≡ true
-  pub does : (a : ℕ) (x y : Core) → wrapped (value x n) ≡ a → x.memory ≡ y.memory → Sees x y rs → lies_in y.memory a (bytes_of list.0 false) ≡ true → (a % 4 == 0) ≡ true → list_any is_askew (transferred load a rs y).regs ≡ false →
+  pub does : (a : ℕ) (x y : Core) → wrapped (value x n) ≡ a → x.memory ≡ y.memory → Sees x y rs → lies_in y.memory a (transfer_size list.0 false) ≡ true → (a % 4 == 0) ≡ true → list_any is_askew (transferred load a rs y).regs ≡ false →
       done (transfer_at load n list rs) x ≡ Ok (transferred load a rs y)
 
 module _ (load : Bool) (n q : ℕ) (list : RegSet) (ne : n ≢ q) (o : IsOutside n q list) where
@@ -100,7 +100,7 @@ module _ (load : Bool) (n q : ℕ) (list : RegSet) (ne : n ≢ q) (o : IsOutside
     apart = subst IsApart (sym e) (multi_apart load n list o.base);
     unread = ap (λ i. reads_of i q) e ∙ multi_unread load n q list ne o.scratch;
     reads = ap (λ i. reads_of i n) e ∙ multi_reads load n list;
-    does = subst (λ rs. (a : ℕ) (x y : Core) → wrapped (value x n) ≡ a → x.memory ≡ y.memory → Sees x y rs → lies_in y.memory a (bytes_of list.0 false) ≡ true → (a % 4 == 0) ≡ true → list_any is_askew (transferred load a rs y).regs ≡ false → done (transfer_at load n list rs) x ≡ Ok (transferred load a rs y)) is
+    does = subst (λ rs. (a : ℕ) (x y : Core) → wrapped (value x n) ≡ a → x.memory ≡ y.memory → Sees x y rs → lies_in y.memory a (transfer_size list.0 false) ≡ true → (a % 4 == 0) ≡ true → list_any is_askew (transferred load a rs y).regs ≡ false → done (transfer_at load n list rs) x ≡ Ok (transferred load a rs y)) is
         (λ a x y v m r l al ev. ap (λ i. done i x) (ap (λ rs. transfer_at load n list rs) is ∙ e) ∙ multi_step load n a list x y v m r l al ev);
   }
 
@@ -137,24 +137,24 @@ is_transfer load n q list ne o = go (registers list.0) refl (outside list n o.ba
         plain_two false = refl
 
 down_parts : (load : Bool) (n : ℕ) (list : RegSet) (y : Core) (h : Change) → done (moving_list load true n list) y ≡ Ok h →
-    let v : ℕ = moved false (value y n) (bytes_of list.0 false) in Moved (lies_in y.memory v (bytes_of list.0 false)) (v % 4 == 0) (with_base n v (transferred load v (registers list.0) y)) h
+    let v : ℕ = moved false (value y n) (transfer_size list.0 false) in Moved (lies_in y.memory v (transfer_size list.0 false)) (v % 4 == 0) (with_base n v (transferred load v (registers list.0) y)) h
 unfolding meant change
 down_parts load n list y h e =
-    let v : ℕ = moved false (value y n) (bytes_of list.0 false) in
+    let v : ℕ = moved false (value y n) (transfer_size list.0 false) in
     let g : Change = with_base n v (transferred load v (registers list.0) y) in
-    moved_through (lies_in y.memory v (bytes_of list.0 false)) (v % 4 == 0) g h (ap (λ o. on_words y.memory v (bytes_of list.0 false) o) (next_same (upright g)) ∙ e)
+    moved_through (lies_in y.memory v (transfer_size list.0 false)) (v % 4 == 0) g h (ap (λ o. on_words y.memory v (transfer_size list.0 false) o) (next_same (upright g)) ∙ e)
   where
     next_same : (o : Outcome) → o ≡ and_next o (λ h. Ok h)
     next_same (Ok g) = refl
     next_same (Err k) = refl
 
 up_parts : (load : Bool) (n : ℕ) (list : RegSet) (y : Core) (h : Change) → done (moving_list load false n list) y ≡ Ok h →
-    let v : ℕ = moved true (value y n) (bytes_of list.0 false) in Moved (lies_in y.memory (wrapped (value y n)) (bytes_of list.0 false)) (wrapped (value y n) % 4 == 0) (with_base n v (transferred load (wrapped (value y n)) (registers list.0) y)) h
+    let v : ℕ = moved true (value y n) (transfer_size list.0 false) in Moved (lies_in y.memory (wrapped (value y n)) (transfer_size list.0 false)) (wrapped (value y n) % 4 == 0) (with_base n v (transferred load (wrapped (value y n)) (registers list.0) y)) h
 unfolding meant change
 up_parts load n list y h e =
-    let v : ℕ = moved true (value y n) (bytes_of list.0 false) in
+    let v : ℕ = moved true (value y n) (transfer_size list.0 false) in
     let g : Change = with_base n v (transferred load (wrapped (value y n)) (registers list.0) y) in
-    moved_through (lies_in y.memory (wrapped (value y n)) (bytes_of list.0 false)) (wrapped (value y n) % 4 == 0) g h (ap (λ o. on_words y.memory (wrapped (value y n)) (bytes_of list.0 false) o) (next_same (upright g)) ∙ e)
+    moved_through (lies_in y.memory (wrapped (value y n)) (transfer_size list.0 false)) (wrapped (value y n) % 4 == 0) g h (ap (λ o. on_words y.memory (wrapped (value y n)) (transfer_size list.0 false) o) (next_same (upright g)) ∙ e)
   where
     next_same : (o : Outcome) → o ≡ and_next o (λ h. Ok h)
     next_same (Ok g) = refl
@@ -168,7 +168,7 @@ pub down_is_done : DownCarries
 down_is_done load n q k end list beside o c = record {
   acts = λ y h b t m.
       let rs : List ℕ = registers list.0 in
-      let v : ℕ = moved false (value y n) (bytes_of list.0 false) in
+      let v : ℕ = moved false (value y n) (transfer_size list.0 false) in
       let g : Change = transferred load v rs y in
       let i : Instr = transfer_at load n list rs in
       let p = down_parts load n list y h m in
@@ -176,9 +176,9 @@ down_is_done load n q k end list beside o c = record {
       let there : n < length y.regs = let l = beside.base in let l' = b.count in omega arith in
       let y1 : Core = applied (writing ((n, plain v) ∷ [])) y in
       let same : Sees y1 y rs = each_map _ _ rs (λ r ne. get_or-set_other y.regs n r (plain v) (plain 0) ne) (outside list n o.base) in
-      let f = s.does v y1 y (ap (λ w. wrapped w.bits) (read_set y n (plain v) there) ∙ stays_small v (moved_small false (value y n) (bytes_of list.0 false))) refl same p.lies p.aligned (others_even (n, plain v) g.regs p.even) in
+      let f = s.does v y1 y (ap (λ w. wrapped w.bits) (read_set y n (plain v) there) ∙ stays_small v (moved_small false (value y n) (transfer_size list.0 false))) refl same p.lies p.aligned (others_even (n, plain v) g.regs p.even) in
       subst (λ (h : Change). Done end (done (summing false q n k) ∷ done (moving false n q) ∷ done i ∷ []) q y h) p.made
-      (base_first false n q k (bytes_of list.0 false) i y g beside c s.on s.apart s.unread (transferred_quiet load v rs y []).falls b (alone (n, plain v) g.regs p.even) end f);
+      (base_first false n q k (transfer_size list.0 false) i y g beside c s.on s.apart s.unread (transferred_quiet load v rs y []).falls b (alone (n, plain v) g.regs p.even) end f);
   rests = λ y b t. absurd cc;
   halts = λ y b r e. absurd (list_calm load true n list y e);
 }
@@ -188,7 +188,7 @@ up_is_done load n q k end list beside o c = record {
   acts = λ y h b t m.
       let rs : List ℕ = registers list.0 in
       let a : ℕ = wrapped (value y n) in
-      let v : ℕ = moved true (value y n) (bytes_of list.0 false) in
+      let v : ℕ = moved true (value y n) (transfer_size list.0 false) in
       let g : Change = transferred load a rs y in
       let i : Instr = transfer_at load n list rs in
       let p = up_parts load n list y h m in
@@ -196,7 +196,7 @@ up_is_done load n q k end list beside o c = record {
       let same : Sees y y rs = each_map _ _ rs (λ r ne. refl) (outside list n o.base) in
       let f = s.does a y y refl refl same p.lies p.aligned (others_even (n, plain v) g.regs p.even) in
       subst (λ (h : Change). Done end (done i ∷ done (summing true q n k) ∷ done (moving false n q) ∷ []) q y h) p.made
-      (base_behind true n q k (bytes_of list.0 false) i y g beside c s.on s.apart s.unread (transferred_quiet load a rs y []).falls b (alone (n, plain v) g.regs p.even) end s.reads f);
+      (base_behind true n q k (transfer_size list.0 false) i y g beside c s.on s.apart s.unread (transferred_quiet load a rs y []).falls b (alone (n, plain v) g.regs p.even) end s.reads f);
   rests = λ y b t. absurd cc;
   halts = λ y b r e. absurd (list_calm load false n list y e);
 }

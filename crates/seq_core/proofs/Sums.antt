@@ -4,7 +4,7 @@ use Rattle.std.specs.Prelude.{◌==◌, ◌||◌, ◌&&◌, nat_le, nat_lt, if�
 use Rattle.std.proofs.lemmas.Bool.{eqb-true, ltb-true}
 use Rattle.std.proofs.lemmas.Bool.Decides.{nat_tests}
 use Rattle.mark_word.specs.Words.{Word, plain}
-use Rattle.mark_word.specs.Formulas.{add_flags, number}
+use Rattle.mark_word.specs.Formulas.{add_flags, one_if}
 use Rattle.thumb_instr.specs.declared.operations.AluOp.TheVariants as alu
 use Rattle.thumb_instr.specs.Sets.{reads_of, writes_of, sets_flags_of, is_flag}
 use Rattle.thumb_table.specs.declared.faults.FaultKind.TheVariants as fault
@@ -38,8 +38,8 @@ at_least a b e = grind (arith, nat_tests)
 below : (a b : ℕ) → nat_le a b ≡ false → b < a
 below a b e = grind (arith, nat_tests)
 
-high_half : (p hi lo : ℕ) → lo < 2 ^ 32 → (p + (hi * 2 ^ 32 + lo)) % 2 ^ 64 / 2 ^ 32 ≡ (hi + p / 2 ^ 32 + number (nat_le (2 ^ 32) (lo + wrapped p + 0))) % 2 ^ 32
-high_half p hi lo lt = elim (nat_le (2 ^ 32) (lo + wrapped p + 0)) as (λ b. nat_le (2 ^ 32) (lo + wrapped p + 0) ≡ b → (p + (hi * 2 ^ 32 + lo)) % 2 ^ 64 / 2 ^ 32 ≡ (hi + p / 2 ^ 32 + number b) % 2 ^ 32) [
+high_half : (p hi lo : ℕ) → lo < 2 ^ 32 → (p + (hi * 2 ^ 32 + lo)) % 2 ^ 64 / 2 ^ 32 ≡ (hi + p / 2 ^ 32 + one_if (nat_le (2 ^ 32) (lo + wrapped p + 0))) % 2 ^ 32
+high_half p hi lo lt = elim (nat_le (2 ^ 32) (lo + wrapped p + 0)) as (λ b. nat_le (2 ^ 32) (lo + wrapped p + 0) ≡ b → (p + (hi * 2 ^ 32 + lo)) % 2 ^ 64 / 2 ^ 32 ≡ (hi + p / 2 ^ 32 + one_if b) % 2 ^ 32) [
   | true ↦ λ e. carried (at_least (2 ^ 32) (lo + wrapped p + 0) e)
   | false ↦ λ e. plainly (below (2 ^ 32) (lo + wrapped p + 0) e)
 ] refl
@@ -64,15 +64,15 @@ sum_is false y lo hi n m = refl
 
 -- ADDS and ADC of registers
 abbrev low_change : ℕ → ℕ → ℕ → Change
-low_change d x y = with_flags true (summed (add_flags x y false)) (effects.number d (add_flags x y false).value)
+low_change d x y = with_flags true (summed (add_flags x y false)) (effects.plain_write d (add_flags x y false).value)
 
 low_done : (d n m : ℕ) (y : Core) → d < 13 → done (register_sum alu.Add true d n m) y ≡ Ok (low_change d (value y n) (value y m))
 unfolding meant change
 low_done d n m y lt = even_done (low_change d (value y n) (value y m)) (low_even d (plain (add_flags (value y n) (value y m) false).value) lt)
 
-high_done : (d n m : ℕ) (y : Core) → d < 13 → done (register_sum alu.Adc false d n m) y ≡ Ok (effects.number d (add_flags (value y n) (value y m) y.c).value)
+high_done : (d n m : ℕ) (y : Core) → d < 13 → done (register_sum alu.Adc false d n m) y ≡ Ok (effects.plain_write d (add_flags (value y n) (value y m) y.c).value)
 unfolding meant change
-high_done d n m y lt = even_done (effects.number d (add_flags (value y n) (value y m) y.c).value) (low_even d (plain (add_flags (value y n) (value y m) y.c).value) lt)
+high_done d n m y lt = even_done (effects.plain_write d (add_flags (value y n) (value y m) y.c).value) (low_even d (plain (add_flags (value y n) (value y m) y.c).value) lt)
 
 not_flag : (k : ℕ) → k < 15 → is_flag k ≡ false
 not_flag k lt =
@@ -173,9 +173,9 @@ long_sum_is_done is_signed a b c lo hi n m end f = record {
       let v2_hi : value y2 hi ≡ u = ap (λ w. w.bits) (get_or-set_other y1.regs c hi (plain s) (plain 0) f.c_free.1) ∙ v1_hi in
       let v2_b : value y2 b ≡ p / 2 ^ 32 = ap (λ w. w.bits) (get_or-set_other y1.regs c b (plain s) (plain 0) f.bc) ∙ v1_b in
       -- the high words
-      let d : ℕ = (u + p / 2 ^ 32 + number k) % 2 ^ 32 in
-      let h3 : Change = effects.number a d in
-      let f3 : done (register_sum alu.Adc false a hi b) y2 ≡ Ok h3 = high_done a hi b y2 f.low_a ∙ ap (λ x. Ok (effects.number a (add_flags x (value y2 b) k).value)) v2_hi ∙ ap (λ x. Ok (effects.number a (add_flags u x k).value)) v2_b in
+      let d : ℕ = (u + p / 2 ^ 32 + one_if k) % 2 ^ 32 in
+      let h3 : Change = effects.plain_write a d in
+      let f3 : done (register_sum alu.Adc false a hi b) y2 ≡ Ok h3 = high_done a hi b y2 f.low_a ∙ ap (λ x. Ok (effects.plain_write a (add_flags x (value y2 b) k).value)) v2_hi ∙ ap (λ x. Ok (effects.plain_write a (add_flags u x k).value)) v2_b in
       let t3 = twice_settles (register_sum alu.Adc false a hi b) no_ends y2 h3 refl (high_apart a hi b f.a_free.1 (λ e. f.ab (sym e)) f.low_a) t2.clear f3 in
       let y3 : Core = applied h3 y2 in
       let l1 : length y1.regs ≡ 15 = length-set (set r a (plain (wrapped p))) b (plain (p / 2 ^ 32)) ∙ la in

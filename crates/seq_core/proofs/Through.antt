@@ -14,7 +14,7 @@ use Rattle.thumb_instr.specs.declared.places.Place.{Place}
 use Rattle.thumb_instr.specs.declared.places.Place.TheVariants.{Offset, Pre, Post, Index}
 use Rattle.thumb_table.specs.declared.faults.FaultKind.TheVariants as fault
 use Rattle.thumb_table.specs.States.{Core, Change, Falls, applied, read, is_askew, upright}
-use Rattle.thumb_table.specs.Effects.{change, writing, accessed, base_write, after_base, address_of, size_of, lies_in}
+use Rattle.thumb_table.specs.Effects.{change, writing, accessed, base_write, after_base, access_address, size_of, lies_in}
 use Rattle.thumb_table.specs.Steps.{goes_on}
 use Rattle.seq_core.specs.Does.{SameBut, Begins}
 use Rattle.seq_core.specs.Meanings.{meant, nowhere}
@@ -130,7 +130,7 @@ access_single : (i : AccessFields) (x : Core) (h : Change) (d : ℕ) → has_one
 unfolding change
 access_single i x h d o k m =
     let b = both_not (is_store i.op) (moves_base i.place) o in
-    let a : ℕ = address_of i.n i.place x in
+    let a : ℕ = access_address i.n i.place x in
     let w = accessed_one i.op i.t a x b.0 in
     let g : Change = after_base (base_write i.n i.place x) (accessed i.op i.t a x) in
     let r : g.regs ≡ (i.t, w.0) ∷ [] = ap (λ l. l ++ (accessed i.op i.t a x).regs) (no_base i.n i.place x b.1) ∙ w.1 in

@@ -11,7 +11,7 @@ use Rattle.thumb_table.specs.Parts.{CodeBytes}
 use Rattle.thumb_table.specs.States.{Core, Site, upright}
 use Rattle.thumb_table.specs.Steps.{Fetched, fetch}
 use Rattle.thumb_table.specs.Values.{away, moved}
-use Rattle.thumb_table.specs.Effects.{change, lies, marked, mark_at, literal_base, number}
+use Rattle.thumb_table.specs.Effects.{change, lies, marked, mark_at, literal_base, plain_write}
 use Rattle.seq_core.specs.declared.steps.Step.{Step}
 use Rattle.seq_core.specs.declared.steps.Goal.{Goal}
 use Rattle.seq_core.specs.declared.steps.Goal.TheVariants as goal
@@ -38,7 +38,7 @@ spot_of p goal.Word = 0
 
 -- ADR of a place in code, with bit 0 set
 abbrev pub address_to : ℕ → ℕ → Effect
-address_to d place y = upright (number d (place + 1))
+address_to d place y = upright (plain_write d (place + 1))
 
 -- what a step makes of a core
 abbrev pub denoted : Spots → Goal → Instr → Effect

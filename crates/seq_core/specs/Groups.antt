@@ -10,7 +10,7 @@ use Rattle.thumb_instr.specs.declared.instructions.Instr.{Instr}
 use Rattle.thumb_instr.specs.declared.instructions.Instr.TheVariants as instr
 use Rattle.thumb_instr.specs.Sets.{reads_of, writes_of}
 use Rattle.thumb_table.specs.States.{Core, Site, read, upright}
-use Rattle.thumb_table.specs.Effects.{change, lies, marked, low_half, completed, mark_at, writing, literal_base, number}
+use Rattle.thumb_table.specs.Effects.{change, lies, marked, low_half, completed, mark_at, writing, literal_base, plain_write}
 use Rattle.thumb_table.specs.Values.{away, moved}
 use Rattle.elf_model.specs.Fields.{word_at}
 use Rattle.seq_core.specs.Meanings.{Ends, meant}
@@ -68,7 +68,7 @@ zero_to nonzero n t = meant (instr.ZeroBranch (record { nonzero = nonzero; n = n
 
 -- ADR of the address to return to, with bit 0 set
 abbrev pub link_to : ℕ → Effect
-link_to back y = upright (number 14 (back + 1))
+link_to back y = upright (plain_write 14 (back + 1))
 
 abbrev pub jump_by : ℕ → Effect
 jump_by m = done (instr.Jump (record { m = m }))

@@ -1,5 +1,6 @@
 -- How many scratch registers a sequence needs, and whether it needs the flags.
 use Rattle.std.specs.Prelude.{ℕ, ◌+◌, ◌≤◌, ◌==◌, Bool, true, false}
+use Rattle.mark_word.specs.Formulas.{one_if}
 use Rattle.thumb_instr.specs.declared.instructions.Instr.{Instr}
 use Rattle.thumb_instr.specs.declared.instructions.Instr.TheVariants.{Alu, Move, ShiftBy, Wide, Field, Unary, Mul, MulAcc, LongMul, Div, Access, CallReg}
 use Rattle.thumb_instr.specs.Sets.{reads_of}
@@ -7,10 +8,6 @@ use Rattle.seq_core.specs.declared.classes.Class.{Class}
 use Rattle.seq_core.specs.declared.classes.Class.TheVariants.{Twice, Through, ThroughFlags, WriteBack, BaseCopy, LongSum, Push, Pop, PopReturn, SpStep, MultiBack, DirectCall, RegisterCall, RegisterJump, ZeroBranch}
 use Rattle.seq_core.specs.Classes.{IsOf}
 use Rattle.seq_core.specs.declared.needs.Need.{Need}
-
-abbrev pub one_if : Bool → ℕ
-one_if true = 1
-one_if false = 0
 
 -- one for each destination that the instruction reads; what goes through a scratch register has one destination, or
 -- two for a product of 64 bits

@@ -2,7 +2,7 @@
 use Rattle.std.specs.Prelude.{◌≡◌, ◌<◌, ℕ, ◌==◌, ◌||◌, Bool, true, false, List, [], ◌∷◌, ◌++◌}
 use Rattle.thumb_instr.specs.declared.instructions.Instr.{Instr}
 use Rattle.thumb_instr.specs.declared.instructions.Instr.TheVariants as instr
-use Rattle.thumb_table.specs.Effects.{registers, bytes_of}
+use Rattle.thumb_table.specs.Effects.{registers, transfer_size}
 use Rattle.thumb_instr.specs.Operands.{has}
 use Rattle.thumb_instr.specs.declared.operations.AccessOp.TheVariants.{Ldr, Str}
 use Rattle.thumb_instr.specs.declared.register_sets.RegSet.{RegSet}
@@ -29,12 +29,12 @@ moving_list load down n list = instr.Multi (record { load = load; down = down; b
 
 -- CLASSES PUSH AND MULTIBACK DOWN
 abbrev pub DownCarries : Type 0
-DownCarries = (load : Bool) (n q k end : ℕ) (list : RegSet) → IsBeside n q → IsOutside n q list → IsConstant k (bytes_of list.0 false) →
+DownCarries = (load : Bool) (n q k end : ℕ) (list : RegSet) → IsBeside n q → IsOutside n q list → IsConstant k (transfer_size list.0 false) →
     Carries Settles end always (done (moving_list load true n list)) (only q) (done (summing false q n k) ∷ done (moving false n q) ∷ done (transfer_at load n list (registers list.0)) ∷ [])
 
 -- CLASSES POP AND MULTIBACK UP
 abbrev pub UpCarries : Type 0
-UpCarries = (load : Bool) (n q k end : ℕ) (list : RegSet) → IsBeside n q → IsOutside n q list → IsConstant k (bytes_of list.0 false) →
+UpCarries = (load : Bool) (n q k end : ℕ) (list : RegSet) → IsBeside n q → IsOutside n q list → IsConstant k (transfer_size list.0 false) →
     Carries Settles end always (done (moving_list load false n list)) (only q) (done (transfer_at load n list (registers list.0)) ∷ done (summing true q n k) ∷ done (moving false n q) ∷ [])
 
 -- CLASS POPRETURN
@@ -43,5 +43,5 @@ returning list = instr.Multi (record { load = true; down = false; back = true; n
 
 -- the list with lr in place of pc; lr is lost
 abbrev pub PopReturnCarries : Type 0
-PopReturnCarries = (q k end : ℕ) (list lr_list : RegSet) → q < 13 → IsOutside 13 q lr_list → registers lr_list.0 ≡ registers list.0 ++ (14 ∷ []) → IsConstant k (bytes_of list.0 true) →
+PopReturnCarries = (q k end : ℕ) (list lr_list : RegSet) → q < 13 → IsOutside 13 q lr_list → registers lr_list.0 ≡ registers list.0 ++ (14 ∷ []) → IsConstant k (transfer_size list.0 true) →
     Carries Settles end always (done (returning list)) (λ r. (r == q) || (r == 14)) (done (transfer_at true 13 lr_list (registers lr_list.0)) ∷ done (summing true q 13 k) ∷ done (moving false 13 q) ∷ jump_by 14 ∷ [])

@@ -2,7 +2,8 @@
 
 ghost use Rattle.std.specs.Prelude.{◌≡◌, ◌≤◌};
 ghost use Rattle.thumb_instr.specs.Sets.{reads_of};
-ghost use Rattle.seq_core.specs.Needs.{calls_link, changes_flags, need_of, one_if, read_destinations, registers_of};
+ghost use Rattle.mark_word.specs.Formulas.{one_if};
+ghost use Rattle.seq_core.specs.Needs.{calls_link, changes_flags, need_of, read_destinations, registers_of};
 
 use crate::Class;
 use thumb_instr::{Instr, LongMul, Reg, reads};

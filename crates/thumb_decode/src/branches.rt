@@ -2,7 +2,8 @@
 
 ghost use Rattle.std.specs.Prelude.{◌≡◌, ℕ, ◌+◌, ◌-◌, ◌*◌, ◌/◌, ◌%◌, ◌^◌, ◌<◌, ◌==◌, [], ◌∷◌};
 ghost use Rattle.thumb_instr.specs.Patterns.{decoded};
-ghost use Rattle.thumb_instr.specs.FullRows.{on_condition_branch, one_if, long_offset};
+ghost use Rattle.mark_word.specs.Formulas.{one_if};
+ghost use Rattle.thumb_instr.specs.FullRows.{on_condition_branch, long_offset};
 ghost use Rattle.thumb_decode.specs.KnownBits.{full_group_with};
 
 use crate::making::{branch, call, cond_of, inside, outside, pair_bits, signed_of};

@@ -17,6 +17,7 @@ mod laws;
 mod making;
 mod memory;
 mod multiple;
+mod operand_tests;
 mod products;
 mod registers;
 mod wide_fields;
@@ -24,6 +25,8 @@ mod wide_fields;
 use fulls::decode_full;
 use halves::decode_half;
 pub use laws::constants_are_values;
+pub use operand_tests::{has_odd_sp, is_copy, is_rrx, names_sp, sums_with_carry, takes_sp};
+pub use registers::is_sp;
 use thumb_instr::Instr;
 pub use thumb_instr::{BadInstr, ItPlace};
 

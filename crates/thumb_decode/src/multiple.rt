@@ -4,7 +4,8 @@ ghost use Rattle.std.specs.Prelude.{◌≡◌, ℕ, ◌+◌, ◌*◌, ◌/◌, �
 ghost use Rattle.thumb_instr.specs.Patterns.{decoded};
 ghost use Rattle.thumb_instr.specs.Operands.{has};
 ghost use Rattle.thumb_instr.specs.Meanings.{is_inside};
-ghost use Rattle.thumb_instr.specs.FullRows.{members, one_if, many, two_words, dual, exclusive};
+ghost use Rattle.mark_word.specs.Formulas.{one_if};
+ghost use Rattle.thumb_instr.specs.FullRows.{members, many, two_words, dual, exclusive};
 ghost use Rattle.thumb_decode.specs.Groups.{full_group};
 
 use crate::making::{has, inside, multi, pair, pair_bits};

@@ -15,7 +15,8 @@ pub(crate) fn register(number: u16) -> Result<Reg, BadInstr>
     }
 }
 
-pub(crate) fn is_sp(r: Reg) -> bool
+/// Whether a register is sp.
+pub fn is_sp(r: Reg) -> bool
     ensures { result ≡ (r == 13) }
 {
     r.number() == 13

@@ -19,7 +19,7 @@ use Rattle.thumb_instr.specs.Patterns.{Answer, refused}
 use Rattle.thumb_instr.specs.Meanings.{when, unary}
 use Rattle.thumb_instr.specs.FullRows.{full_rows, on_plain, shift_of, product}
 use Rattle.thumb_encode.specs.HalfCodes.{shift_number}
-use Rattle.thumb_encode.specs.FullCodes.{bit}
+use Rattle.mark_word.specs.Formulas.{one_if}
 use Rattle.thumb_encode.specs.HasFull.{has_full, lacks_sp}
 use Rattle.thumb_encode.proofs.Putting.{IsGiven, IsCoded, coded}
 use Rattle.thumb_encode.proofs.Covering.{if_false}
@@ -31,11 +31,11 @@ four_bits r low = omega arith
 pub no_pc : (r : ℕ) → r ≤ 14 → (r == 15) ≡ false
 no_pc r low = grind (arith, nat_tests)
 
-pub one_bit : (b : Bool) → bit b < 2 ^ 1
+pub one_bit : (b : Bool) → one_if b < 2 ^ 1
 one_bit true = omega arith
 one_bit false = omega arith
 
-pub bit_again : (b : Bool) → (bit b == 1) ≡ b
+pub bit_again : (b : Bool) → (one_if b == 1) ≡ b
 bit_again true = refl
 bit_again false = refl
 
@@ -89,7 +89,7 @@ pub shift_by_coded : (i : ShiftByFields) → IsGiven (instr.ShiftBy i) → has_f
 unfolding full_rows has_full
 shift_by_coded i formed e =
     let r = formed.registers in
-    coded 28 (shift_number i.kind, (bit i.s, (i.n, (i.d, (i.m, tt))))) _ refl refl
+    coded 28 (shift_number i.kind, (one_if i.s, (i.n, (i.d, (i.m, tt))))) _ refl refl
     (two_bits i.kind, (one_bit i.s, (four_bits i.n r.1, (four_bits i.d r.0, (four_bits i.m r.2, tt)))))
     (plain_takes (i.d ∷ i.n ∷ i.m ∷ []) _ _ (r.0, (r.1, (r.2, tt))) e (rw (shift_again i.kind formed.fields, bit_again i.s) (taken (goes_by_register i.kind) (instr.ShiftBy i) formed.fields)))
 

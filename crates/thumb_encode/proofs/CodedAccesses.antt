@@ -15,7 +15,8 @@ use Rattle.thumb_instr.specs.Operands.{is_place, is_pair_offset}
 use Rattle.thumb_instr.specs.Patterns.{Answer, cut, fits}
 use Rattle.thumb_instr.specs.FullRows.{full_rows, accesses, on_access, access_row, by_byte, by_register, two_words, dual}
 use Rattle.thumb_instr.specs.Formed.{PlaceNamesRegisters}
-use Rattle.thumb_encode.specs.FullCodes.{bit, access_number}
+use Rattle.mark_word.specs.Formulas.{one_if}
+use Rattle.thumb_encode.specs.FullCodes.{access_number}
 use Rattle.thumb_encode.specs.HasFull.{has_full, lacks_sp, place_has_full, is_changed}
 use Rattle.thumb_encode.proofs.Covering.{chosen}
 use Rattle.thumb_encode.proofs.Putting.{IsGiven, IsCoded, coded, coded_after, full_row}
@@ -111,11 +112,11 @@ index_of op t n m shift lt ln lm plain other most =
 first_of_one : (t : ℕ) → lacks_sp (t ∷ []) ≡ true → (t == 13) ≡ false
 first_of_one t e = grind (arith, nat_tests)
 
-pre_takes : (op : AccessOp) (t n : ℕ) (up : Bool) (imm : ℕ) → t ≤ 14 → n ≤ 14 → (t == 13) ≡ false → (n == t) ≡ false → by_byte 1 (bit up) 1 op n t imm ≡ Ok (instr.Access (record { op = op; t = t; n = n; place = Pre up imm }))
+pre_takes : (op : AccessOp) (t n : ℕ) (up : Bool) (imm : ℕ) → t ≤ 14 → n ≤ 14 → (t == 13) ≡ false → (n == t) ≡ false → by_byte 1 (one_if up) 1 op n t imm ≡ Ok (instr.Access (record { op = op; t = t; n = n; place = Pre up imm }))
 unfolding by_byte
 pre_takes op t n up imm lt ln plain apart = rw (bit_again up) (access_takes op t n (Pre up imm) true lt ln plain apart refl)
 
-post_takes : (op : AccessOp) (t n : ℕ) (up : Bool) (imm : ℕ) → t ≤ 14 → n ≤ 14 → (t == 13) ≡ false → (n == t) ≡ false → by_byte 0 (bit up) 1 op n t imm ≡ Ok (instr.Access (record { op = op; t = t; n = n; place = Post up imm }))
+post_takes : (op : AccessOp) (t n : ℕ) (up : Bool) (imm : ℕ) → t ≤ 14 → n ≤ 14 → (t == 13) ≡ false → (n == t) ≡ false → by_byte 0 (one_if up) 1 op n t imm ≡ Ok (instr.Access (record { op = op; t = t; n = n; place = Post up imm }))
 unfolding by_byte
 post_takes op t n up imm lt ln plain apart = rw (bit_again up) (access_takes op t n (Post up imm) true lt ln plain apart refl)
 
@@ -130,11 +131,11 @@ access_of op t n (Offset false imm) lt ln lp is plain e = let less = ltb-true im
 access_of op t n (Pre up imm) lt ln lp is plain e =
     let both = and_parts (nat_lt imm 256) (not (n == t)) e in
     let less = ltb-true imm 256 both.0 in
-    byte_of 1 (bit up) 1 op t n imm _ (omega arith) (one_bit up) (omega arith) lt ln (omega arith) (pre_takes op t n up imm lt ln plain (not_true (n == t) both.1))
+    byte_of 1 (one_if up) 1 op t n imm _ (omega arith) (one_bit up) (omega arith) lt ln (omega arith) (pre_takes op t n up imm lt ln plain (not_true (n == t) both.1))
 access_of op t n (Post up imm) lt ln lp is plain e =
     let both = and_parts (nat_lt imm 256) (not (n == t)) e in
     let less = ltb-true imm 256 both.0 in
-    byte_of 0 (bit up) 1 op t n imm _ (omega arith) (one_bit up) (omega arith) lt ln (omega arith) (post_takes op t n up imm lt ln plain (not_true (n == t) both.1))
+    byte_of 0 (one_if up) 1 op t n imm _ (omega arith) (one_bit up) (omega arith) lt ln (omega arith) (post_takes op t n up imm lt ln plain (not_true (n == t) both.1))
 access_of op t n (Index m shift) lt ln lp is plain e = index_of op t n m shift lt ln lp plain (not_true (m == 13) e) is
 
 pub access_coded : (i : AccessFields) → IsGiven (instr.Access i) → has_full (instr.Access i) ≡ true → IsCoded (instr.Access i)
@@ -172,7 +173,7 @@ comes_before index.Offset = 1
 comes_before index.Pre = 1
 comes_before index.Post = 0
 
-dual_is : (x : PairIndex) (u l n t s i : ℕ) → dual (comes_before x) u (bit (is_changed x)) l n t s i ≡ two_words (l == 1) t s n (u == 1) (4 * i) x (is_changed x)
+dual_is : (x : PairIndex) (u l n t s i : ℕ) → dual (comes_before x) u (one_if (is_changed x)) l n t s i ≡ two_words (l == 1) t s n (u == 1) (4 * i) x (is_changed x)
 unfolding dual
 dual_is index.Offset u l n t s i = refl
 dual_is index.Pre u l n t s i = refl
@@ -183,12 +184,12 @@ before_is_small index.Offset = omega arith
 before_is_small index.Pre = omega arith
 before_is_small index.Post = omega arith
 
-dual_takes : (i : PairFields) → IsGiven (instr.Pair i) → has_full (instr.Pair i) ≡ true → dual (comes_before i.index) (bit i.up) (bit (is_changed i.index)) (bit i.load) i.n i.t i.u (i.imm / 4) ≡ Ok (instr.Pair i)
+dual_takes : (i : PairFields) → IsGiven (instr.Pair i) → has_full (instr.Pair i) ≡ true → dual (comes_before i.index) (one_if i.up) (one_if (is_changed i.index)) (one_if i.load) i.n i.t i.u (i.imm / 4) ≡ Ok (instr.Pair i)
 unfolding has_full
 dual_takes i f e =
     let both = and_parts (lacks_sp (i.t ∷ i.u ∷ []) && not (i.load && (i.t == i.u))) (not (is_changed i.index && ((i.n == i.t) || (i.n == i.u)))) e in
     let parts = and_parts (lacks_sp (i.t ∷ i.u ∷ [])) (not (i.load && (i.t == i.u))) both.0 in
-    dual_is i.index (bit i.up) (bit i.load) i.n i.t i.u (i.imm / 4)
+    dual_is i.index (one_if i.up) (one_if i.load) i.n i.t i.u (i.imm / 4)
     ∙ rw (bit_again i.load, bit_again i.up, quarter_again i.imm f.fields)
     (pair_takes i.load i.t i.u i.n i.up i.imm i.index f.registers.0 f.registers.1 f.registers.2 f.fields parts.0 (not_true _ parts.1) (not_true _ both.1))
 
@@ -196,6 +197,6 @@ pub pair_coded : (i : PairFields) → IsGiven (instr.Pair i) → has_full (instr
 unfolding full_rows
 pair_coded i f e =
     let r = f.registers in
-    coded 2 (comes_before i.index, (bit i.up, (bit (is_changed i.index), (bit i.load, (i.n, (i.t, (i.u, (i.imm / 4, tt)))))))) _ refl refl
+    coded 2 (comes_before i.index, (one_if i.up, (one_if (is_changed i.index), (one_if i.load, (i.n, (i.t, (i.u, (i.imm / 4, tt)))))))) _ refl refl
     (before_is_small i.index, (one_bit i.up, (one_bit (is_changed i.index), (one_bit i.load, (four_bits i.n r.2, (four_bits i.t r.0, (four_bits i.u r.1, (quarter_is_small i.imm f.fields, tt))))))))
     (dual_takes i f e)

@@ -10,9 +10,9 @@ use Rattle.thumb_instr.specs.Fields.{BranchFields, CallFields}
 use Rattle.thumb_instr.specs.Operands.{is_even}
 use Rattle.thumb_instr.specs.Patterns.{Bits, Fixed, Field}
 use Rattle.thumb_instr.specs.Meanings.{signed}
-use Rattle.thumb_instr.specs.FullRows.{full_rows, on_condition_branch, long_offset, one_if}
-use Rattle.thumb_encode.specs.HalfCodes.{condition_number}
-use Rattle.thumb_encode.specs.FullCodes.{bit}
+use Rattle.mark_word.specs.Formulas.{one_if}
+use Rattle.thumb_instr.specs.FullRows.{full_rows, on_condition_branch, long_offset}
+use Rattle.thumb_instr.specs.Blocks.{condition_number}
 use Rattle.thumb_encode.specs.HasFull.{has_full, is_signed, is_always}
 use Rattle.thumb_encode.proofs.Covering.{if_true, if_false}
 use Rattle.thumb_encode.proofs.Putting.{IsGiven, IsCoded, Leads, coded, coded_behind, full_row, first_answers, rows_like, is_pattern}
@@ -58,7 +58,7 @@ lowest_21 (negsuc n) even e =
 
 -- B, T4, and BL
 
-sign_again : (p s : ℕ) → p < 2 → s < 2 → one_if (bit (p == s) == s) ≡ p
+sign_again : (p s : ℕ) → p < 2 → s < 2 → one_if (one_if (p == s) == s) ≡ p
 sign_again zero zero x y = refl
 sign_again zero (suc zero) x y = refl
 sign_again (suc zero) zero x y = refl
@@ -71,18 +71,18 @@ whole_25 : (z : ℕ) → z < 2 ^ 25 → z % 2 ≡ 0
 whole_25 z small even = omega arith
 
 long_again : (z : ℕ) → z < 2 ^ 25 → z % 2 ≡ 0
-    → long_offset (z / 2 ^ 24) (z / 2 ^ 12 % 2 ^ 10) (bit (z / 2 ^ 23 % 2 == z / 2 ^ 24)) (bit (z / 2 ^ 22 % 2 == z / 2 ^ 24)) (z / 2 % 2 ^ 11) ≡ z
+    → long_offset (z / 2 ^ 24) (z / 2 ^ 12 % 2 ^ 10) (one_if (z / 2 ^ 23 % 2 == z / 2 ^ 24)) (one_if (z / 2 ^ 22 % 2 == z / 2 ^ 24)) (z / 2 % 2 ^ 11) ≡ z
 long_again z small even =
     let s = z / 2 ^ 24 in
     let one : z / 2 ^ 23 % 2 < 2 = omega arith in
     let two : z / 2 ^ 22 % 2 < 2 = omega arith in
     let sign : z / 2 ^ 24 < 2 = omega arith in
-    ap (λ (p : ℕ). 2 ^ 24 * s + 2 ^ 23 * p + 2 ^ 22 * one_if (bit (z / 2 ^ 22 % 2 == s) == s) + 2 ^ 12 * (z / 2 ^ 12 % 2 ^ 10) + 2 * (z / 2 % 2 ^ 11)) (sign_again (z / 2 ^ 23 % 2) s one sign)
+    ap (λ (p : ℕ). 2 ^ 24 * s + 2 ^ 23 * p + 2 ^ 22 * one_if (one_if (z / 2 ^ 22 % 2 == s) == s) + 2 ^ 12 * (z / 2 ^ 12 % 2 ^ 10) + 2 * (z / 2 % 2 ^ 11)) (sign_again (z / 2 ^ 23 % 2) s one sign)
     ∙ ap (λ (q : ℕ). 2 ^ 24 * s + 2 ^ 23 * (z / 2 ^ 23 % 2) + 2 ^ 22 * q + 2 ^ 12 * (z / 2 ^ 12 % 2 ^ 10) + 2 * (z / 2 % 2 ^ 11)) (sign_again (z / 2 ^ 22 % 2) s two sign)
     ∙ whole_25 z small even
 
 offset_again : (offset : ℤ) → IsLowest 25 offset
-    → signed 25 (long_offset (lowest 25 offset / 2 ^ 24) (lowest 25 offset / 2 ^ 12 % 2 ^ 10) (bit (lowest 25 offset / 2 ^ 23 % 2 == lowest 25 offset / 2 ^ 24)) (bit (lowest 25 offset / 2 ^ 22 % 2 == lowest 25 offset / 2 ^ 24)) (lowest 25 offset / 2 % 2 ^ 11)) ≡ offset
+    → signed 25 (long_offset (lowest 25 offset / 2 ^ 24) (lowest 25 offset / 2 ^ 12 % 2 ^ 10) (one_if (lowest 25 offset / 2 ^ 23 % 2 == lowest 25 offset / 2 ^ 24)) (one_if (lowest 25 offset / 2 ^ 22 % 2 == lowest 25 offset / 2 ^ 24)) (lowest 25 offset / 2 % 2 ^ 11)) ≡ offset
 offset_again offset is = ap (signed 25) (long_again (lowest 25 offset) is.small is.even) ∙ is.again
 
 call_of : (offset : ℤ) → is_even offset ≡ true → is_signed 25 offset ≡ true → IsCoded (instr.Call (record { offset = offset }))
@@ -91,7 +91,7 @@ call_of offset even e =
     let is = lowest_25 offset even e in
     let z = lowest 25 offset in
     let small = is.small in
-    coded 13 (z / 2 ^ 24, (z / 2 ^ 12 % 2 ^ 10, (bit (z / 2 ^ 23 % 2 == z / 2 ^ 24), (bit (z / 2 ^ 22 % 2 == z / 2 ^ 24), (z / 2 % 2 ^ 11, tt))))) _ refl refl
+    coded 13 (z / 2 ^ 24, (z / 2 ^ 12 % 2 ^ 10, (one_if (z / 2 ^ 23 % 2 == z / 2 ^ 24), (one_if (z / 2 ^ 22 % 2 == z / 2 ^ 24), (z / 2 % 2 ^ 11, tt))))) _ refl refl
     (omega arith, (omega arith, (one_bit _, (one_bit _, (omega arith, tt)))))
     (rw (offset_again offset is) (taken (is_even offset) _ even))
 
@@ -101,7 +101,7 @@ always_of offset even e =
     let is = lowest_25 offset even e in
     let z = lowest 25 offset in
     let small = is.small in
-    coded 12 (z / 2 ^ 24, (z / 2 ^ 12 % 2 ^ 10, (bit (z / 2 ^ 23 % 2 == z / 2 ^ 24), (bit (z / 2 ^ 22 % 2 == z / 2 ^ 24), (z / 2 % 2 ^ 11, tt))))) _ refl refl
+    coded 12 (z / 2 ^ 24, (z / 2 ^ 12 % 2 ^ 10, (one_if (z / 2 ^ 23 % 2 == z / 2 ^ 24), (one_if (z / 2 ^ 22 % 2 == z / 2 ^ 24), (z / 2 % 2 ^ 11, tt))))) _ refl refl
     (omega arith, (omega arith, (one_bit _, (one_bit _, (omega arith, tt)))))
     (rw (offset_again offset is) (taken (is_even offset) _ even))
 

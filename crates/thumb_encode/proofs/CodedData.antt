@@ -22,7 +22,8 @@ use Rattle.thumb_instr.specs.DataRows.{names, is_rrx, has_odd_sp, alu_row, is_co
 use Rattle.thumb_instr.specs.FullRows.{full_rows}
 use Rattle.thumb_instr.specs.Formed.{OperandNamesRegisters}
 use Rattle.thumb_encode.specs.HalfCodes.{shift_number}
-use Rattle.thumb_encode.specs.FullCodes.{bit, alu_number, move_number, test_number}
+use Rattle.mark_word.specs.Formulas.{one_if}
+use Rattle.thumb_encode.specs.FullCodes.{alu_number, move_number, test_number}
 use Rattle.thumb_encode.specs.HasFull.{has_full}
 use Rattle.thumb_encode.proofs.Covering.{if_false}
 use Rattle.thumb_encode.proofs.Putting.{IsGiven, IsCoded, coded}
@@ -61,12 +62,12 @@ data_of : (o : ℕ) (s : Bool) (n d : ℕ) (x : Operand) (i : Instr) → o < 2 ^
 unfolding full_rows
 data_of o s n d (Imm imm) i lo ln ld names e answer =
     let less = below_4096 imm e in
-    coded 4 (imm / 2048, (o, (bit s, (n, (imm / 256 % 8, (d, (imm % 256, tt))))))) i refl refl
+    coded 4 (imm / 2048, (o, (one_if s, (n, (imm / 256 % 8, (d, (imm % 256, tt))))))) i refl refl
     (omega arith, (lo, (one_bit s, (ln, (omega arith, (ld, (omega arith, tt)))))))
     (ap (λ (b : Bool). data_processing o b n d (Imm (2048 * (imm / 2048) + 256 * (imm / 256 % 8) + imm % 256))) (bit_again s)
     ∙ ap (λ (k : ℕ). data_processing o s n d (Imm k)) (in_three_parts imm less) ∙ answer)
 data_of o s n d (Reg m kind amount) i lo ln ld names e answer =
-    coded 3 (o, (bit s, (n, (amount % 32 / 4, (d, (amount % 32 % 4, (shift_number kind, (m, tt)))))))) i refl refl
+    coded 3 (o, (one_if s, (n, (amount % 32 / 4, (d, (amount % 32 % 4, (shift_number kind, (m, tt)))))))) i refl refl
     (lo, (one_bit s, (ln, (omega arith, (ld, (omega arith, (two_bits kind, (four_bits m names, tt))))))))
     (ap (λ (b : Bool). data_processing o b n d (shifted m (shift_number kind) (4 * (amount % 32 / 4) + amount % 32 % 4))) (bit_again s)
     ∙ ap (λ (k : ℕ). data_processing o s n d (shifted m (shift_number kind) k)) (in_two_parts amount)

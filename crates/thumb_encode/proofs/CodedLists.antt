@@ -6,8 +6,8 @@ use Rattle.thumb_instr.specs.declared.refusals.ItPlace.TheVariants.{Outside}
 use Rattle.thumb_instr.specs.Fields.{MultiFields}
 use Rattle.thumb_instr.specs.Operands.{has, is_list}
 use Rattle.thumb_instr.specs.Meanings.{is_inside}
-use Rattle.thumb_instr.specs.FullRows.{full_rows, many, members, one_if}
-use Rattle.thumb_encode.specs.FullCodes.{bit}
+use Rattle.mark_word.specs.Formulas.{one_if}
+use Rattle.thumb_instr.specs.FullRows.{full_rows, many, members}
 use Rattle.thumb_encode.specs.HasFull.{has_full, is_pop}
 use Rattle.thumb_encode.proofs.Covering.{chosen}
 use Rattle.thumb_encode.proofs.Putting.{IsGiven, IsCoded, coded}
@@ -50,11 +50,11 @@ many_of : (load down back : Bool) (n list : ℕ) (pc : Bool) → n ≤ 14 → is
 unfolding full_rows
 many_of load false back n list pc ln is pops fine =
     let less = list_is_small list pc is in
-    coded 0 (bit back, (bit load, (n, (bit pc, (list / 2 ^ 14, (list % 2 ^ 13, tt)))))) _ refl refl (one_bit back, (one_bit load, (four_bits n ln, (one_bit pc, (omega arith, (omega arith, tt))))))
+    coded 0 (one_if back, (one_if load, (n, (one_if pc, (list / 2 ^ 14, (list % 2 ^ 13, tt)))))) _ refl refl (one_bit back, (one_bit load, (four_bits n ln, (one_bit pc, (omega arith, (omega arith, tt))))))
     (rw (bit_again load, bit_again back, bit_again pc, list_again list pc is) (many_takes load false back n list pc ln is pops fine))
 many_of load true back n list pc ln is pops fine =
     let less = list_is_small list pc is in
-    coded 1 (bit back, (bit load, (n, (bit pc, (list / 2 ^ 14, (list % 2 ^ 13, tt)))))) _ refl refl (one_bit back, (one_bit load, (four_bits n ln, (one_bit pc, (omega arith, (omega arith, tt))))))
+    coded 1 (one_if back, (one_if load, (n, (one_if pc, (list / 2 ^ 14, (list % 2 ^ 13, tt)))))) _ refl refl (one_bit back, (one_bit load, (four_bits n ln, (one_bit pc, (omega arith, (omega arith, tt))))))
     (rw (bit_again load, bit_again back, bit_again pc, list_again list pc is) (many_takes load true back n list pc ln is pops fine))
 
 -- POP of pc alone

@@ -14,7 +14,7 @@ use Rattle.thumb_instr.specs.Fields.{WideFields, HalfFields, FieldFields, Litera
 use Rattle.thumb_instr.specs.Operands.{is_number_of_12_bits, has_source, is_field, takes_option}
 use Rattle.thumb_instr.specs.FullRows.{full_rows, wide_row, extract, insert}
 use Rattle.thumb_instr.specs.Formed.{IsSource}
-use Rattle.thumb_encode.specs.FullCodes.{bit}
+use Rattle.mark_word.specs.Formulas.{one_if}
 use Rattle.thumb_encode.specs.HasFull.{has_full, lacks_sp, source_of}
 use Rattle.thumb_encode.proofs.Covering.{if_false}
 use Rattle.thumb_encode.proofs.Putting.{IsGiven, IsCoded, coded}
@@ -89,7 +89,7 @@ pub literal_coded : (i : LiteralFields) → IsGiven (instr.Literal i) → has_fu
 unfolding full_rows has_full
 literal_coded i f e =
     let less = ltb-true i.imm 4096 f.fields in
-    coded 23 (bit i.up, (i.t, (i.imm, tt))) _ refl refl (one_bit i.up, (four_bits i.t f.registers, (omega arith, tt)))
+    coded 23 (one_if i.up, (i.t, (i.imm, tt))) _ refl refl (one_bit i.up, (four_bits i.t f.registers, (omega arith, tt)))
     (plain_takes (i.t ∷ []) _ _ (f.registers, tt) e (rw (bit_again i.up) (taken (is_number_of_12_bits i.imm) (instr.Literal i) f.fields)))
 
 -- barriers, and NOP

@@ -5,7 +5,8 @@ use Rattle.std.proofs.lemmas.Bool.{ltb-false}
 use Rattle.thumb_instr.specs.declared.conditions.Cond.{Cond}
 use Rattle.thumb_instr.specs.Patterns.{cut}
 use Rattle.thumb_instr.specs.Meanings.{conditions, signed, zero_as_32, constant_of}
-use Rattle.thumb_encode.specs.HalfCodes.{two_registers, three_registers, five_bits, eight_bits, high_registers, quarter_of, word_of, condition_number}
+use Rattle.thumb_instr.specs.Blocks.{condition_number}
+use Rattle.thumb_encode.specs.HalfCodes.{two_registers, three_registers, five_bits, eight_bits, high_registers, quarter_of, word_of}
 use Rattle.thumb_encode.proofs.Covering.{chosen, Each, done, ◌&◌, each-get}
 
 pub two_registers-cut : (o c : ℕ) → c < 2 ^ 16 → cut c 16 10 ≡ o → two_registers o (cut c 6 3) (cut c 3 3) ≡ c

@@ -10,7 +10,8 @@ use Rattle.thumb_instr.specs.Patterns.{cut, decoded}
 use Rattle.thumb_instr.specs.DataRows.{shifted, data_processing}
 use Rattle.thumb_instr.specs.FullRows.{full_rows, accesses, shift_of}
 use Rattle.thumb_encode.specs.HalfCodes.{shift_number}
-use Rattle.thumb_encode.specs.FullCodes.{full_code, bit, full_number, access_number, access_row_number}
+use Rattle.mark_word.specs.Formulas.{one_if}
+use Rattle.thumb_encode.specs.FullCodes.{full_code, full_number, access_number, access_row_number}
 use Rattle.thumb_encode.proofs.Covering.{OfAnswer, OfRows, done, ◌&◌, of_table, of_when}
 use Rattle.thumb_encode.proofs.FullFields.{full_number-cut, split_number-cut, shifted_number-cut, bit-of, data_code-shifted, access_number-get, shift_number-of}
 use Rattle.thumb_encode.proofs.DataCovering.{IsOnly, data_processing-makes}
@@ -18,8 +19,8 @@ use Rattle.thumb_encode.proofs.FullMeanings.{of_plain, of_access, many-covers, d
 
 -- several registers: p m 0 list
 many_number : (o c : ℕ) → c < 2 ^ 32 → cut c 32 10 ≡ o → cut c 14 1 ≡ 0
-    → full_number (2 ^ 2 * o + 2 * bit (cut c 22 1 == 1) + bit (cut c 21 1 == 1)) (cut c 20 4)
-    (2 ^ 3 * bit (cut c 16 1 == 1) + 2 ^ 2 * ((2 ^ 14 * cut c 15 1 + cut c 13 13) / 2 ^ 14 % 2) + (2 ^ 14 * cut c 15 1 + cut c 13 13) / 2 ^ 12 % 2)
+    → full_number (2 ^ 2 * o + 2 * one_if (cut c 22 1 == 1) + one_if (cut c 21 1 == 1)) (cut c 20 4)
+    (2 ^ 3 * one_if (cut c 16 1 == 1) + 2 ^ 2 * ((2 ^ 14 * cut c 15 1 + cut c 13 13) / 2 ^ 14 % 2) + (2 ^ 14 * cut c 15 1 + cut c 13 13) / 2 ^ 12 % 2)
     ((2 ^ 14 * cut c 15 1 + cut c 13 13) / 2 ^ 8 % 16) ((2 ^ 14 * cut c 15 1 + cut c 13 13) % 2 ^ 8) ≡ c
 many_number o c small top zeros =
     let load = bit-of (cut c 21 1) (omega arith) in
@@ -34,7 +35,7 @@ shifted-covers c small top zeros =
     let s = bit-of (cut c 21 1) (omega arith) in
     data_processing-makes (cut c 25 4) (cut c 21 1 == 1) (cut c 20 4) (cut c 12 4) (shifted (cut c 4 4) (cut c 6 2) (4 * cut c 15 3 + cut c 8 2)) c
     (data_code-shifted (cut c 25 4) (cut c 21 1 == 1) (cut c 20 4) (cut c 12 4) (cut c 4 4) (cut c 6 2) (4 * cut c 15 3 + cut c 8 2) (omega arith)
-    ∙ shifted_number-cut (2 ^ 5 * 117 + 2 * cut c 25 4 + bit (cut c 21 1 == 1)) (cut c 20 4) (cut c 12 4) (4 * cut c 15 3 + cut c 8 2) (2 ^ 4 * cut c 6 2 + cut c 4 4) c small
+    ∙ shifted_number-cut (2 ^ 5 * 117 + 2 * cut c 25 4 + one_if (cut c 21 1 == 1)) (cut c 20 4) (cut c 12 4) (4 * cut c 15 3 + cut c 8 2) (2 ^ 4 * cut c 6 2 + cut c 4 4) c small
     (omega arith) refl zeros refl refl (omega arith))
 
 constant-covers : (c : ℕ) → c < 2 ^ 32 → cut c 32 5 ≡ 30 → cut c 26 1 ≡ 0 → cut c 16 1 ≡ 0
@@ -42,7 +43,7 @@ constant-covers : (c : ℕ) → c < 2 ^ 32 → cut c 32 5 ≡ 30 → cut c 26 1 
 constant-covers c small top zero zeros =
     let s = bit-of (cut c 21 1) (omega arith) in
     data_processing-makes (cut c 25 4) (cut c 21 1 == 1) (cut c 20 4) (cut c 12 4) (Imm (2048 * cut c 27 1 + 256 * cut c 15 3 + cut c 8 8)) c
-    (split_number-cut (2 * cut c 25 4 + bit (cut c 21 1 == 1)) (cut c 20 4) (cut c 12 4) (2048 * cut c 27 1 + 256 * cut c 15 3 + cut c 8 8) c small top (omega arith) refl zeros refl refl)
+    (split_number-cut (2 * cut c 25 4 + one_if (cut c 21 1 == 1)) (cut c 20 4) (cut c 12 4) (2048 * cut c 27 1 + 256 * cut c 15 3 + cut c 8 8) c small top (omega arith) refl zeros refl refl)
 
 whole : (c o : ℕ) → c < 2 ^ 32 → cut c 32 32 ≡ o → o ≡ c
 whole c o small is = omega arith
@@ -51,7 +52,7 @@ barrier : (o c : ℕ) → c < 2 ^ 32 → cut c 32 28 ≡ o → 2 ^ 4 * o + cut c
 barrier o c small is = omega arith
 
 literal_number : (c : ℕ) → c < 2 ^ 32 → cut c 32 8 ≡ 0xF8 → cut c 23 7 ≡ 95
-    → full_number (2 ^ 4 * 0xF8 + 2 ^ 3 * bit (cut c 24 1 == 1) + 5) 15 (cut c 16 4) (cut c 12 12 / 2 ^ 8) (cut c 12 12 % 2 ^ 8) ≡ c
+    → full_number (2 ^ 4 * 0xF8 + 2 ^ 3 * one_if (cut c 24 1 == 1) + 5) 15 (cut c 16 4) (cut c 12 12 / 2 ^ 8) (cut c 12 12 % 2 ^ 8) ≡ c
 literal_number c small top ones =
     let up = bit-of (cut c 24 1) (omega arith) in
     full_number-cut _ _ _ _ _ c small (omega arith) (omega arith) refl (omega arith) (omega arith)
@@ -69,7 +70,7 @@ index_number c k small top zero zeros is =
     full_number-cut _ _ _ _ _ c small (omega arith) refl refl (omega arith) (omega arith)
 
 shift_row : (c : ℕ) → c < 2 ^ 32 → cut c 32 9 ≡ 500 → cut c 16 4 ≡ 15 → cut c 8 4 ≡ 0
-    → full_number (2 ^ 3 * 500 + 2 * shift_number (shift_of (cut c 23 2)) + bit (cut c 21 1 == 1)) (cut c 20 4) 15 (cut c 12 4) (cut c 4 4) ≡ c
+    → full_number (2 ^ 3 * 500 + 2 * shift_number (shift_of (cut c 23 2)) + one_if (cut c 21 1 == 1)) (cut c 20 4) 15 (cut c 12 4) (cut c 4 4) ≡ c
 shift_row c small top ones zeros =
     let s = bit-of (cut c 21 1) (omega arith) in
     let kind = shift_number-of (cut c 23 2) (omega arith) in

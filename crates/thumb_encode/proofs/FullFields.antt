@@ -9,9 +9,10 @@ use Rattle.thumb_instr.specs.declared.operands.Operand.TheVariants.{Reg}
 use Rattle.thumb_instr.specs.Patterns.{cut}
 use Rattle.thumb_instr.specs.Meanings.{zero_as_32}
 use Rattle.thumb_instr.specs.DataRows.{shifted}
-use Rattle.thumb_instr.specs.FullRows.{one_if, accesses, shift_of}
+use Rattle.mark_word.specs.Formulas.{one_if}
+use Rattle.thumb_instr.specs.FullRows.{accesses, shift_of}
 use Rattle.thumb_encode.specs.HalfCodes.{shift_number}
-use Rattle.thumb_encode.specs.FullCodes.{bit, full_number, split_number, shifted_number, data_code, near_branch, far_branch, access_number}
+use Rattle.thumb_encode.specs.FullCodes.{full_number, split_number, shifted_number, data_code, near_branch, far_branch, access_number}
 use Rattle.thumb_encode.proofs.Covering.{chosen, Each, done, ◌&◌, each-get}
 
 pub full_number-cut : (o n a d low c : ℕ) → c < 2 ^ 32 → o ≡ cut c 32 12 → n ≡ cut c 20 4 → a ≡ cut c 16 4 → d ≡ cut c 12 4 → low ≡ cut c 8 8 → full_number o n a d low ≡ c
@@ -26,7 +27,7 @@ pub shifted_number-cut : (o n d five low c : ℕ) → c < 2 ^ 32 → o ≡ cut c
 unfolding shifted_number full_number
 shifted_number-cut o n d five low c small top base none second number rest = omega arith
 
-pub bit-of : (b : ℕ) → b < 2 → bit (b == 1) ≡ b
+pub bit-of : (b : ℕ) → b < 2 → one_if (b == 1) ≡ b
 bit-of zero less = refl
 bit-of (suc zero) less = refl
 bit-of (suc (suc b)) less = absurd (omega arith)
@@ -41,10 +42,10 @@ amount-again o n d low i = chosen (λ b. (i == 0) ≡ b → full_number o n ((if
 pub three_left : (k : ℕ) → k < 4 → (k == 0) ≡ false → (k == 1) ≡ false → (k == 2) ≡ false → 3 ≡ k
 three_left k h a b c = grind (arith, nat_tests)
 
-pub data_code-shifted : (o : ℕ) (s : Bool) (n d m k i : ℕ) → k < 4 → data_code o s n d (shifted m k i) ≡ shifted_number (2 ^ 5 * 117 + 2 * o + bit s) n d i (2 ^ 4 * k + m)
+pub data_code-shifted : (o : ℕ) (s : Bool) (n d m k i : ℕ) → k < 4 → data_code o s n d (shifted m k i) ≡ shifted_number (2 ^ 5 * 117 + 2 * o + one_if s) n d i (2 ^ 4 * k + m)
 unfolding shifted
 data_code-shifted o s n d m k i small =
-    let top = 2 ^ 5 * 117 + 2 * o + bit s in
+    let top = 2 ^ 5 * 117 + 2 * o + one_if s in
     let kind_is : (j : ℕ) → j ≡ k → shifted_number top n d i (2 ^ 4 * j + m) ≡ shifted_number top n d i (2 ^ 4 * k + m) = λ j e. ap (λ (y : ℕ). shifted_number top n d i (2 ^ 4 * y + m)) e in
     let P : Operand → Type 0 = λ x. data_code o s n d x ≡ shifted_number top n d i (2 ^ 4 * k + m) in
     chosen (λ t. P (if t then Reg m Lsl i else if k == 1 then Reg m Lsr (zero_as_32 i) else if k == 2 then Reg m Asr (zero_as_32 i) else if i == 0 then Reg m Rrx 0 else Reg m Ror i)) (k == 0)
@@ -58,7 +59,7 @@ data_code-shifted o s n d m k i small =
     (λ _. kind_is 3 (three_left k small not0 not1 not2)))))
 
 -- two bits of a long branch's offset are set where they are the sign's
-pub same-twice : (j s : ℕ) → j < 2 → s < 2 → bit (one_if (j == s) == s) ≡ j
+pub same-twice : (j s : ℕ) → j < 2 → s < 2 → one_if (one_if (j == s) == s) ≡ j
 same-twice zero zero x y = refl
 same-twice zero (suc zero) x y = refl
 same-twice (suc zero) zero x y = refl
@@ -71,7 +72,7 @@ one_if-small true = omega arith
 one_if-small false = omega arith
 
 pub far_branch-of : (o z s p q i10 i11 : ℕ) → s < 2 → p < 2 → q < 2 → i10 < 2 ^ 10 → i11 < 2 ^ 11 → z % 2 ^ 25 ≡ 2 ^ 24 * s + 2 ^ 23 * p + 2 ^ 22 * q + 2 ^ 12 * i10 + 2 * i11
-    → far_branch o z ≡ 2 ^ 27 * 30 + 2 ^ 26 * s + 2 ^ 16 * i10 + 2 ^ 14 * o + 2 ^ 12 + 2 ^ 13 * bit (p == s) + 2 ^ 11 * bit (q == s) + i11
+    → far_branch o z ≡ 2 ^ 27 * 30 + 2 ^ 26 * s + 2 ^ 16 * i10 + 2 ^ 14 * o + 2 ^ 12 + 2 ^ 13 * one_if (p == s) + 2 ^ 11 * one_if (q == s) + i11
 unfolding far_branch
 far_branch-of o z s p q i10 i11 less_s less_p less_q less_10 less_11 is =
     let sign : z / 2 ^ 24 % 2 ≡ s = omega arith in

@@ -18,9 +18,11 @@ use Rattle.thumb_instr.specs.declared.refusals.ItPlace.TheVariants.{Outside}
 use Rattle.thumb_instr.specs.Operands.{has, is_turn}
 use Rattle.thumb_instr.specs.Patterns.{Answer, cut, refused}
 use Rattle.thumb_instr.specs.Meanings.{signed, access, pair, unary, is_inside}
-use Rattle.thumb_instr.specs.FullRows.{on_plain, members, one_if, many, two_words, exclusive, dual, wide_row, extract, insert, on_condition_branch, long_offset, on_access, access_row, by_byte, by_register, product}
-use Rattle.thumb_encode.specs.HalfCodes.{word_of, condition_number}
-use Rattle.thumb_encode.specs.FullCodes.{full_code, bit, full_number, split_number, shifted_number, wide_number, adr_number, access_number, access_row_number, byte_number, near_branch, far_branch, is_before, is_changed, place_code}
+use Rattle.mark_word.specs.Formulas.{one_if}
+use Rattle.thumb_instr.specs.FullRows.{on_plain, members, many, two_words, exclusive, dual, wide_row, extract, insert, on_condition_branch, long_offset, on_access, access_row, by_byte, by_register, product}
+use Rattle.thumb_instr.specs.Blocks.{condition_number}
+use Rattle.thumb_encode.specs.HalfCodes.{word_of}
+use Rattle.thumb_encode.specs.FullCodes.{full_code, full_number, split_number, shifted_number, wide_number, adr_number, access_number, access_row_number, byte_number, near_branch, far_branch, is_before, is_changed, place_code}
 use Rattle.thumb_encode.proofs.Covering.{OfAnswer, of_when, of_refused, of_unless, of_either, of_condition, if_false, chosen}
 use Rattle.thumb_encode.proofs.Fields.{condition_number-get, word_of-signed_21, word_of-signed_25}
 use Rattle.thumb_encode.proofs.FullFields.{full_number-cut, bit-of, same-twice, one_if-small, far_branch-of, near_branch-of}
@@ -51,7 +53,7 @@ some_listed list pc e = chosen (λ b. (list == 0) ≡ b → b ≡ false) (list =
     (λ _ _. refl) refl
 
 pub many-covers : (c : ℕ) (load down back : Bool) (n list : ℕ) (pc : Bool)
-    → full_number (2 ^ 2 * (if down then 932 else 930) + 2 * bit back + bit load) n (2 ^ 3 * bit pc + 2 ^ 2 * (list / 2 ^ 14 % 2) + list / 2 ^ 12 % 2) (list / 2 ^ 8 % 16) (list % 2 ^ 8) ≡ c
+    → full_number (2 ^ 2 * (if down then 932 else 930) + 2 * one_if back + one_if load) n (2 ^ 3 * one_if pc + 2 ^ 2 * (list / 2 ^ 14 % 2) + list / 2 ^ 12 % 2) (list / 2 ^ 8 % 16) (list % 2 ^ 8) ≡ c
     → OfAnswer (IsOnly c) (many Outside load down back n list pc)
 unfolding many full_code
 many-covers c load down back n list pc is =
@@ -61,7 +63,7 @@ many-covers c load down back n list pc is =
     (some_listed list pc (second-of (pc && is_inside Outside) (nat_lt (members 15 list + one_if pc) 2) (pc && has list 14) (back && has list n) fine)) ∙ is))))
 
 pub two_words-covers : (c : ℕ) (load : Bool) (t u n : ℕ) (up : Bool) (imm : ℕ) (index : PairIndex) (back : Bool)
-    → full_number (2 ^ 5 * 116 + 2 ^ 4 * is_before index + 2 ^ 3 * bit up + 2 ^ 2 + 2 * is_changed index + bit load) n t u (imm / 4 % 2 ^ 8) ≡ c
+    → full_number (2 ^ 5 * 116 + 2 ^ 4 * is_before index + 2 ^ 3 * one_if up + 2 ^ 2 + 2 * is_changed index + one_if load) n t u (imm / 4 % 2 ^ 8) ≡ c
     → OfAnswer (IsOnly c) (two_words load t u n up imm index back)
 unfolding two_words full_code
 two_words-covers c load t u n up imm index back is = of_refused (IsOnly c)
@@ -89,8 +91,8 @@ dual-covers c small top one =
     let up = bit-of (cut c 24 1) (omega arith) in
     let load = bit-of (cut c 21 1) (omega arith) in
     let made : (p w : ℕ) → p ≡ cut c 25 1 → w ≡ cut c 22 1
-    → full_number (2 ^ 5 * 116 + 2 ^ 4 * p + 2 ^ 3 * bit (cut c 24 1 == 1) + 2 ^ 2 + 2 * w + bit (cut c 21 1 == 1)) (cut c 20 4) (cut c 16 4) (cut c 12 4) (4 * cut c 8 8 / 4 % 2 ^ 8) ≡ c
-    = λ p w is_p is_w. full_number-cut (2 ^ 5 * 116 + 2 ^ 4 * p + 2 ^ 3 * bit (cut c 24 1 == 1) + 2 ^ 2 + 2 * w + bit (cut c 21 1 == 1)) (cut c 20 4) (cut c 16 4) (cut c 12 4) (4 * cut c 8 8 / 4 % 2 ^ 8) c small
+    → full_number (2 ^ 5 * 116 + 2 ^ 4 * p + 2 ^ 3 * one_if (cut c 24 1 == 1) + 2 ^ 2 + 2 * w + one_if (cut c 21 1 == 1)) (cut c 20 4) (cut c 16 4) (cut c 12 4) (4 * cut c 8 8 / 4 % 2 ^ 8) ≡ c
+    = λ p w is_p is_w. full_number-cut (2 ^ 5 * 116 + 2 ^ 4 * p + 2 ^ 3 * one_if (cut c 24 1 == 1) + 2 ^ 2 + 2 * w + one_if (cut c 21 1 == 1)) (cut c 20 4) (cut c 16 4) (cut c 12 4) (4 * cut c 8 8 / 4 % 2 ^ 8) c small
     (omega arith) refl refl refl (omega arith) in
     of_either (IsOnly c) (cut c 22 1 == 1) _ _
     (λ changed. of_either (IsOnly c) (cut c 25 1 == 1) _ _
@@ -151,7 +153,7 @@ far_branch-covers o c small top op one =
     let offset = long_offset s (cut c 26 10) j k (cut c 11 11) in
     let less : offset < 2 ^ 25 = below-2-25 s p q (cut c 26 10) (cut c 11 11) less_s less_p less_q (omega arith) (omega arith) in
     far_branch-of o (word_of (signed 25 offset)) s p q (cut c 26 10) (cut c 11 11) less_s less_p less_q (omega arith) (omega arith) (word_of-signed_25 offset less)
-    ∙ far_sum o c s j k (bit (p == s)) (bit (q == s)) small top op one (same-twice j s (omega arith) less_s) (same-twice k s (omega arith) less_s) refl refl refl
+    ∙ far_sum o c s j k (one_if (p == s)) (one_if (q == s)) small top op one (same-twice j s (omega arith) less_s) (same-twice k s (omega arith) less_s) refl refl refl
 
 pub near_branch-covers : (c : ℕ) → c < 2 ^ 32 → cut c 32 5 ≡ 30 → cut c 16 2 ≡ 2 → cut c 13 1 ≡ 0
     → near_branch (cut c 26 4) (word_of (signed 21 (2 ^ 20 * cut c 27 1 + 2 ^ 19 * cut c 12 1 + 2 ^ 18 * cut c 14 1 + 2 ^ 12 * cut c 22 6 + 2 * cut c 11 11))) ≡ c
@@ -198,7 +200,7 @@ unfolding byte_number
 by_byte-number c k p w small top zeros one is is_p is_w =
     let up = bit-of (cut c 10 1) (omega arith) in
     let row = access_row_number-cut c k small top is in
-    full_number-cut (access_row_number k) (cut c 20 4) (cut c 16 4) (8 + 4 * p + 2 * bit (cut c 10 1 == 1) + w) (cut c 8 8 % 2 ^ 8) c small (omega arith) refl refl (omega arith) (omega arith)
+    full_number-cut (access_row_number k) (cut c 20 4) (cut c 16 4) (8 + 4 * p + 2 * one_if (cut c 10 1 == 1) + w) (cut c 8 8 % 2 ^ 8) c small (omega arith) refl refl (omega arith) (omega arith)
 
 pub by_byte-covers : (c : ℕ) (op : AccessOp) → c < 2 ^ 32 → cut c 32 7 ≡ 124 → cut c 24 1 ≡ 0 → cut c 12 1 ≡ 1 → access_number op ≡ 8 * cut c 25 1 + 2 * cut c 23 2 + cut c 21 1
     → OfAnswer (IsOnly c) (by_byte (cut c 11 1) (cut c 10 1) (cut c 9 1) op (cut c 20 4) (cut c 16 4) (cut c 8 8))

@@ -30,7 +30,8 @@ use Rattle.thumb_instr.specs.Patterns.{Answer, cut, decoded, refused}
 use Rattle.thumb_instr.specs.Meanings.{signed, is_inside, conditions, unary, half, branch}
 use Rattle.thumb_instr.specs.Sets.{sums_with_carry}
 use Rattle.thumb_instr.specs.DataRows.{names, is_rrx, has_odd_sp, alu_row, is_copy, move_row, takes_sp, test_row, or_test, or_move, unknown, operations, data_processing}
-use Rattle.thumb_instr.specs.FullRows.{on_plain, members, one_if, many, two_words, exclusive, dual, wide_row, extract, insert, on_condition_branch, long_offset, accesses, access_row, by_byte, by_register, product, full_rows}
+use Rattle.mark_word.specs.Formulas.{one_if}
+use Rattle.thumb_instr.specs.FullRows.{on_plain, members, many, two_words, exclusive, dual, wide_row, extract, insert, on_condition_branch, long_offset, accesses, access_row, by_byte, by_register, product, full_rows}
 use Rattle.thumb_encode.specs.HasFull.{has_full, lacks_sp, is_signed, is_always, is_changed, place_has_full}
 use Rattle.thumb_encode.proofs.Covering.{OfAnswer, OfRows, Each, done, ◌&◌, each-get, of_table, of_when, of_unless, of_either, of_condition, chosen}
 use Rattle.thumb_encode.proofs.FullMeanings.{of_access}

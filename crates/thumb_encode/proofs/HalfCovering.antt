@@ -8,7 +8,8 @@ use Rattle.thumb_instr.specs.Operands.{has}
 use Rattle.thumb_instr.specs.Patterns.{cut, decoded}
 use Rattle.thumb_instr.specs.Meanings.{conditions, zero_as_32, constant_of}
 use Rattle.thumb_instr.specs.HalfRows.{half_rows, high_add, high_move, high_compare, hint, is_one_bit, if_then, short_branch}
-use Rattle.thumb_encode.specs.HalfCodes.{half_code, later_code, two_registers, high_registers, quarter_of, word_of, condition_number, compare_registers}
+use Rattle.thumb_instr.specs.Blocks.{condition_number}
+use Rattle.thumb_encode.specs.HalfCodes.{half_code, later_code, two_registers, high_registers, quarter_of, word_of, compare_registers}
 use Rattle.thumb_encode.proofs.Covering.{OfAnswer, OfRows, done, ◌&◌, of_table, of_when, of_unless, of_either, of_condition, if_true, if_false}
 use Rattle.thumb_encode.proofs.Fields.{two_registers-cut, three_registers-cut, five_bits-cut, eight_bits-cut, high_registers-cut, zero_as_32-again, quarter_of-constant_of, condition_number-get, word_of-signed_9, word_of-signed_12, bit-again, is_13-low, is_below_8}
 

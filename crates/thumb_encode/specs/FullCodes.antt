@@ -1,6 +1,7 @@
 -- A device of proof: the number of 32 bits that alone may stand for an instruction; its upper half is the first halfword.
 -- What does not fit its field is cut: whether the number does stand for the instruction is for the table to say.
 use Rattle.std.specs.Prelude.{ℕ, ℤ, ◌+◌, ◌-◌, ◌*◌, ◌/◌, ◌%◌, ◌^◌, ◌==◌, Bool, true, false, Option, Some, None, if◌then◌else◌}
+use Rattle.mark_word.specs.Formulas.{one_if}
 use Rattle.thumb_instr.specs.declared.operations.AluOp.{AluOp}
 use Rattle.thumb_instr.specs.declared.operations.AluOp.TheVariants.{And, Bic, Orr, Orn, Eor, Add, Adc, Sbc, Sub, Rsb}
 use Rattle.thumb_instr.specs.declared.operations.MoveOp.{MoveOp}
@@ -28,11 +29,8 @@ use Rattle.thumb_instr.specs.declared.places.PairIndex.TheVariants as index
 use Rattle.thumb_instr.specs.declared.instructions.Instr.{Instr}
 use Rattle.thumb_instr.specs.declared.instructions.Instr.TheVariants as instr
 use Rattle.thumb_instr.specs.Fields.{FieldFields, UnaryFields, PairFields, MultiFields}
-use Rattle.thumb_encode.specs.HalfCodes.{shift_number, condition_number, word_of}
-
-abbrev pub bit : Bool → ℕ
-bit true = 1
-bit false = 0
+use Rattle.thumb_instr.specs.Blocks.{condition_number}
+use Rattle.thumb_encode.specs.HalfCodes.{shift_number, word_of}
 
 -- oooooooooooo nnnn, aaaa dddd llllllll
 unfoldable pub full_number : ℕ → ℕ → ℕ → ℕ → ℕ → ℕ
@@ -48,8 +46,8 @@ shifted_number o n d five low = full_number o n (five / 4 % 8) d (2 ^ 6 * (five 
 
 -- data processing, by the operation's four bits
 abbrev pub data_code : ℕ → Bool → ℕ → ℕ → Operand → ℕ
-data_code o s n d (Imm imm) = split_number (2 * o + bit s) n d imm
-data_code o s n d (Reg m kind amount) = shifted_number (2 ^ 5 * 117 + 2 * o + bit s) n d amount (2 ^ 4 * shift_number kind + m)
+data_code o s n d (Imm imm) = split_number (2 * o + one_if s) n d imm
+data_code o s n d (Reg m kind amount) = shifted_number (2 ^ 5 * 117 + 2 * o + one_if s) n d amount (2 ^ 4 * shift_number kind + m)
 
 abbrev pub alu_number : AluOp → ℕ
 alu_number And = 0
@@ -141,7 +139,7 @@ access_row_number k = 2 ^ 5 * 124 + 2 ^ 4 * (k / 8) + k % 8
 
 -- a number of eight bits below the base, or with a change of the base: 1 p u w iiiiiiii
 unfoldable pub byte_number : ℕ → ℕ → ℕ → ℕ → Bool → ℕ → ℕ → ℕ
-byte_number k n t p up w imm = full_number (access_row_number k) n t (8 + 4 * p + 2 * bit up + w) (imm % 2 ^ 8)
+byte_number k n t p up w imm = full_number (access_row_number k) n t (8 + 4 * p + 2 * one_if up + w) (imm % 2 ^ 8)
 
 abbrev pub place_code : ℕ → ℕ → ℕ → Place → ℕ
 place_code k n t (Offset true imm) = full_number (access_row_number k + 8) n t (imm / 2 ^ 8 % 16) (imm % 2 ^ 8)
@@ -164,14 +162,14 @@ is_changed index.Post = 1
 -- 1110100 p u 1 w l nnnn, tttt ssss iiiiiiii
 abbrev pub pair_code : PairFields → ℕ
 pair_code a =
-    full_number (2 ^ 5 * 116 + 2 ^ 4 * is_before a.index + 2 ^ 3 * bit a.up + 2 ^ 2 + 2 * is_changed a.index + bit a.load) a.n a.t a.u (a.imm / 4 % 2 ^ 8)
+    full_number (2 ^ 5 * 116 + 2 ^ 4 * is_before a.index + 2 ^ 3 * one_if a.up + 2 ^ 2 + 2 * is_changed a.index + one_if a.load) a.n a.t a.u (a.imm / 4 % 2 ^ 8)
 
 -- 1110100 010 or 100 w l nnnn, p m 0 list; of pc alone there is a POP
 abbrev pub multi_code : MultiFields → ℕ
 multi_code a =
     if a.list.0 == 0 then 0xF85DFB04
-    else full_number (2 ^ 2 * (if a.down then 932 else 930) + 2 * bit a.back + bit a.load) a.n
-    (2 ^ 3 * bit a.pc + 2 ^ 2 * (a.list.0 / 2 ^ 14 % 2) + a.list.0 / 2 ^ 12 % 2) (a.list.0 / 2 ^ 8 % 16) (a.list.0 % 2 ^ 8)
+    else full_number (2 ^ 2 * (if a.down then 932 else 930) + 2 * one_if a.back + one_if a.load) a.n
+    (2 ^ 3 * one_if a.pc + 2 ^ 2 * (a.list.0 / 2 ^ 14 % 2) + a.list.0 / 2 ^ 12 % 2) (a.list.0 / 2 ^ 8 % 16) (a.list.0 % 2 ^ 8)
 
 -- 11110 s cccc iiiiii, 10 j 0 k iiiiiiiiiii
 unfoldable pub near_branch : ℕ → ℕ → ℕ
@@ -184,7 +182,7 @@ unfoldable pub far_branch : ℕ → ℕ → ℕ
 far_branch o offset =
     let s = offset / 2 ^ 24 % 2 in
     2 ^ 27 * 30 + 2 ^ 26 * s + 2 ^ 16 * (offset / 2 ^ 12 % 2 ^ 10) + 2 ^ 14 * o + 2 ^ 12
-    + 2 ^ 13 * bit (offset / 2 ^ 23 % 2 == s) + 2 ^ 11 * bit (offset / 2 ^ 22 % 2 == s) + offset / 2 % 2 ^ 11
+    + 2 ^ 13 * one_if (offset / 2 ^ 23 % 2 == s) + 2 ^ 11 * one_if (offset / 2 ^ 22 % 2 == s) + offset / 2 % 2 ^ 11
 
 abbrev pub branch_code : ℕ → ℤ → ℕ
 branch_code condition offset = if condition == 14 then far_branch 2 (word_of offset) else near_branch condition (word_of offset)
@@ -199,19 +197,19 @@ unfoldable pub full_code : Instr → Option ℕ
 full_code (instr.Alu a) = Some (data_code (alu_number a.op) a.s a.n a.d a.x)
 full_code (instr.Move a) = Some (data_code (move_number a.op) a.s 15 a.d a.x)
 full_code (instr.Test a) = Some (data_code (test_number a.op) true a.n 15 a.x)
-full_code (instr.ShiftBy a) = Some (full_number (2 ^ 3 * 500 + 2 * shift_number a.kind + bit a.s) a.n 15 a.d a.m)
+full_code (instr.ShiftBy a) = Some (full_number (2 ^ 3 * 500 + 2 * shift_number a.kind + one_if a.s) a.n 15 a.d a.m)
 full_code (instr.Wide a) = Some (split_number (wide_number a.op) a.n a.d a.imm)
 full_code (instr.Half a) = Some (split_number (half_number a.top) (a.imm / 2 ^ 12) a.d (a.imm % 2 ^ 12))
 full_code (instr.Field a) = Some (field_code a.op a)
 full_code (instr.Unary a) = Some (unary_code a.op a)
 full_code (instr.Mul a) = Some (full_number 0xFB0 a.n 15 a.d a.m)
-full_code (instr.MulAcc a) = Some (full_number 0xFB0 a.n a.a a.d (2 ^ 4 * bit a.minus + a.m))
+full_code (instr.MulAcc a) = Some (full_number 0xFB0 a.n a.a a.d (2 ^ 4 * one_if a.minus + a.m))
 full_code (instr.LongMul a) = Some (full_number (long_mul_number a.op) a.n a.lo a.hi a.m)
 full_code (instr.Div a) = Some (full_number (div_number a.signed) a.n 15 a.d (2 ^ 4 * 15 + a.m))
 full_code (instr.Access a) = Some (place_code (access_number a.op) a.n a.t a.place)
 full_code (instr.Pair a) = Some (pair_code a)
 full_code (instr.Multi a) = Some (multi_code a)
-full_code (instr.Literal a) = Some (full_number (2 ^ 4 * 0xF8 + 2 ^ 3 * bit a.up + 5) 15 a.t (a.imm / 2 ^ 8) (a.imm % 2 ^ 8))
+full_code (instr.Literal a) = Some (full_number (2 ^ 4 * 0xF8 + 2 ^ 3 * one_if a.up + 5) 15 a.t (a.imm / 2 ^ 8) (a.imm % 2 ^ 8))
 full_code (instr.Adr a) = Some (split_number (adr_number a.up) 15 a.d a.imm)
 full_code (instr.Branch a) = Some (branch_code (condition_number a.cond) a.offset)
 full_code (instr.ZeroBranch a) = None

@@ -20,10 +20,9 @@ use Rattle.thumb_instr.specs.declared.operands.Operand.{Operand}
 use Rattle.thumb_instr.specs.declared.operands.Operand.TheVariants.{Imm, Reg}
 use Rattle.thumb_instr.specs.declared.places.Place.{Place}
 use Rattle.thumb_instr.specs.declared.places.Place.TheVariants.{Offset, Pre, Post, Index}
-use Rattle.thumb_instr.specs.declared.conditions.Cond.{Cond}
-use Rattle.thumb_instr.specs.declared.conditions.Cond.TheVariants.{Eq, Ne, Cs, Cc, Mi, Pl, Vs, Vc, Hi, Ls, Ge, Lt, Gt, Le, Al}
 use Rattle.thumb_instr.specs.declared.instructions.Instr.{Instr}
 use Rattle.thumb_instr.specs.declared.instructions.Instr.TheVariants as instr
+use Rattle.thumb_instr.specs.Blocks.{condition_number}
 use Rattle.thumb_instr.specs.Fields.{AluFields, MoveFields, TestFields}
 
 -- oooooooooo mmm ddd
@@ -54,23 +53,6 @@ quarter_of imm12 = if nat_lt imm12 256 then imm12 / 4 else if nat_lt imm12 3968 
 unfoldable pub word_of : ℤ → ℕ
 word_of (pos n) = n
 word_of (negsuc n) = 2 ^ 32 - 1 - n
-
-abbrev pub condition_number : Cond → ℕ
-condition_number Eq = 0
-condition_number Ne = 1
-condition_number Cs = 2
-condition_number Cc = 3
-condition_number Mi = 4
-condition_number Pl = 5
-condition_number Vs = 6
-condition_number Vc = 7
-condition_number Hi = 8
-condition_number Ls = 9
-condition_number Ge = 10
-condition_number Lt = 11
-condition_number Gt = 12
-condition_number Le = 13
-condition_number Al = 14
 
 -- ADD and SUB of a constant, which change sp or are made of it where they set no flags
 abbrev pub add_constant : Bool → ℕ → ℕ → ℕ → ℕ

@@ -14,7 +14,8 @@ use Rattle.thumb_instr.specs.Fields.{AluFields, MoveFields, TestFields, PairFiel
 use Rattle.thumb_instr.specs.Operands.{has}
 use Rattle.thumb_instr.specs.Sets.{sums_with_carry}
 use Rattle.thumb_instr.specs.DataRows.{names, is_rrx, has_odd_sp, is_copy, takes_sp}
-use Rattle.thumb_instr.specs.FullRows.{members, one_if}
+use Rattle.mark_word.specs.Formulas.{one_if}
+use Rattle.thumb_instr.specs.FullRows.{members}
 use Rattle.thumb_instr.specs.Formed.{NamesRegisters, TakesFields}
 use Rattle.thumb_encode.specs.declared.codes.Code.TheVariants as code
 use Rattle.thumb_encode.specs.Encoding.{StandsFor}

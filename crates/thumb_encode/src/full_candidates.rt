@@ -2,10 +2,12 @@
 
 ghost use Rattle.std.specs.Prelude.{◌≡◌, ◌+◌, ◌*◌, ◌/◌, ◌%◌, ◌^◌, ◌<◌, ◌≤◌, true, false, if◌then◌else◌};
 ghost use Rattle.thumb_instr.specs.declared.places.Place.TheVariants.{Offset, Index};
-ghost use Rattle.thumb_encode.specs.HalfCodes.{shift_number as shift_number_of, condition_number as condition_number_of};
-ghost use Rattle.thumb_encode.specs.FullCodes.{bit as bit_of, full_number as full_number_of, split_number as split_number_of, shifted_number as shifted_number_of, data_code as data_code_of, alu_number as alu_number_of, move_number as move_number_of, test_number as test_number_of, wide_number, adr_number, half_number, source_number as source_number_of, field_code as field_code_of, unary_code as unary_code_of, long_mul_number as long_mul_number_of, div_number, access_number as access_number_of, access_row_number as access_row_number_of, byte_number as byte_number_of, place_code as place_code_of, is_before as is_before_of, is_changed as is_changed_of, pair_code as pair_code_of, multi_code as multi_code_of, near_branch as near_branch_of, far_branch as far_branch_of, branch_code as branch_code_of, nothing_code as nothing_code_of, full_code};
+ghost use Rattle.thumb_instr.specs.Blocks.{condition_number};
+ghost use Rattle.thumb_encode.specs.HalfCodes.{shift_number as shift_number_of};
+ghost use Rattle.mark_word.specs.Formulas.{one_if};
+ghost use Rattle.thumb_encode.specs.FullCodes.{full_number as full_number_of, split_number as split_number_of, shifted_number as shifted_number_of, data_code as data_code_of, alu_number as alu_number_of, move_number as move_number_of, test_number as test_number_of, wide_number, adr_number, half_number, source_number as source_number_of, field_code as field_code_of, unary_code as unary_code_of, long_mul_number as long_mul_number_of, div_number, access_number as access_number_of, access_row_number as access_row_number_of, byte_number as byte_number_of, place_code as place_code_of, is_before as is_before_of, is_changed as is_changed_of, pair_code as pair_code_of, multi_code as multi_code_of, near_branch as near_branch_of, far_branch as far_branch_of, branch_code as branch_code_of, nothing_code as nothing_code_of, full_code};
 
-use crate::half_candidates::{condition_number, word_of};
+use crate::half_candidates::word_of;
 use bitflags::Flags;
 use mark_word::Shift;
 use thumb_instr::{
@@ -22,7 +24,7 @@ fn number(r: Reg) -> u32
 }
 
 fn bit(b: bool) -> u32
-    ensures value { result ≡ bit_of b }
+    ensures value { result ≡ one_if b }
     ensures range { result < 2 }
 {
     if b { 1 } else { 0 }
@@ -147,7 +149,7 @@ fn test_code(a: &Test) -> u32
 }
 
 fn shift_code(a: &ShiftBy) -> u32
-    ensures { result ≡ full_number_of (2 ^ 3 * 500 + 2 * shift_number_of a.now.kind + bit_of a.now.s) a.now.n 15 a.now.d a.now.m }
+    ensures { result ≡ full_number_of (2 ^ 3 * 500 + 2 * shift_number_of a.now.kind + one_if a.now.s) a.now.n 15 a.now.d a.now.m }
 {
     full_number(
         8 * 500 + 2 * shift_number(a.kind) + bit(a.s),
@@ -240,7 +242,7 @@ fn unary_code(a: &Unary) -> u32
 }
 
 fn mul_acc_code(a: &MulAcc) -> u32
-    ensures { result ≡ full_number_of 0xFB0 a.now.n a.now.a a.now.d (2 ^ 4 * bit_of a.now.minus + a.now.m) }
+    ensures { result ≡ full_number_of 0xFB0 a.now.n a.now.a a.now.d (2 ^ 4 * one_if a.now.minus + a.now.m) }
 {
     full_number(
         0xFB0,
@@ -429,7 +431,7 @@ fn pair_code(a: &Pair) -> u32
 
 /// 1110100 010 or 100 w l
 fn multi_row(a: &Multi) -> u32
-    ensures value { result ≡ 2 ^ 2 * (if a.now.down then 932 else 930) + 2 * bit_of a.now.back + bit_of a.now.load }
+    ensures value { result ≡ 2 ^ 2 * (if a.now.down then 932 else 930) + 2 * one_if a.now.back + one_if a.now.load }
     ensures range { result < 4096 }
 {
     if a.down {
@@ -457,7 +459,7 @@ fn multi_code(a: &Multi) -> u32
 }
 
 fn literal_code(a: &Literal) -> u32
-    ensures { result ≡ full_number_of (2 ^ 4 * 0xF8 + 2 ^ 3 * bit_of a.now.up + 5) 15 a.now.t (a.now.imm / 2 ^ 8) (a.now.imm % 2 ^ 8) }
+    ensures { result ≡ full_number_of (2 ^ 4 * 0xF8 + 2 ^ 3 * one_if a.now.up + 5) 15 a.now.t (a.now.imm / 2 ^ 8) (a.now.imm % 2 ^ 8) }
 {
     let imm = a.imm as u32;
     full_number(
@@ -505,9 +507,9 @@ fn far_branch(o: u32, offset: u32) -> u32
 }
 
 fn branch_code(a: &Branch) -> u32
-    ensures { result ≡ branch_code_of (condition_number_of a.now.cond) a.now.offset }
+    ensures { result ≡ branch_code_of (condition_number a.now.cond) a.now.offset }
 {
-    let condition = condition_number(a.cond) as u32;
+    let condition = a.cond.number() as u32;
     if condition == 14 {
         far_branch(2, word_of(a.offset))
     } else {

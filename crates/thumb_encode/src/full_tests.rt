@@ -1,15 +1,14 @@
 //! Which instructions have a code of two halfwords.
 
 ghost use Rattle.std.specs.Prelude.{◌≡◌, ℕ, ◌+◌, ◌/◌, ◌%◌, ◌^◌, ◌<◌, ◌≤◌, ◌==◌, ◌&&◌, ◌||◌, ◌↔◌, IsTrue, not, nat_lt, true, false, [], ◌∷◌, if◌then◌else◌};
-ghost use Rattle.thumb_instr.specs.FullRows.{members, one_if};
+ghost use Rattle.mark_word.specs.Formulas.{one_if};
+ghost use Rattle.thumb_instr.specs.FullRows.{members};
 ghost use Rattle.thumb_encode.specs.HasFull.{lacks_sp, source_of, is_signed as is_signed_of, alu_has_full as alu_full, move_has_full as move_full, test_has_full as test_full, place_has_full as place_full, is_changed as is_changed_of, pair_has_full as pair_full, is_pop as is_pop_of, multi_has_full as multi_full, is_always as is_always_of, has_full, HasCode};
 ghost use Rattle.thumb_instr.specs.DataRows.{is_copy as is_copy_of, names};
 
 use crate::given::given;
-use crate::operand_tests::{
-    has_odd_sp, is_copy, is_rrx, is_sp, names_sp, sums_with_carry, takes_sp,
-};
 use bitflags::Flags;
+use thumb_decode::{has_odd_sp, is_copy, is_rrx, is_sp, names_sp, sums_with_carry, takes_sp};
 use thumb_instr::{
     Access, Alu, Branch, Cond, Field, Half, Instr, Move, Multi, Pair, PairIndex, Place, Reg, Test,
 };

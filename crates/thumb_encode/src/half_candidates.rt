@@ -1,12 +1,13 @@
 //! The halfwords that may stand for an instruction.
 
 ghost use Rattle.std.specs.Prelude.{◌≡◌, ◌+◌, ◌*◌, ◌/◌, ◌%◌, ◌^◌, ◌<◌, ◌≤◌, if◌then◌else◌};
-ghost use Rattle.thumb_encode.specs.HalfCodes.{two_registers as two_registers_of, three_registers as three_registers_of, five_bits as five_bits_of, eight_bits as eight_bits_of, high_registers as high_registers_of, quarter_of, word_of as word_in, condition_number as condition_number_of, add_constant, subtract_constant, add_register, by_code as by_code_of, sum_code as sum_code_of, difference_code as difference_code_of, alu_code as alu_code_of, shift_number as shift_number_of, move_register as move_register_of, mov_code as mov_code_of, mvn_code as mvn_code_of, move_code as move_code_of, compare_registers as compare_registers_of, compare_code as compare_code_of, test_by_code as test_by_code_of, test_code as test_code_of, shift_code as shift_code_of, unary_code as unary_code_of, index_number as index_number_of, word_offset as word_offset_of, offset_code as offset_code_of, place_code as place_code_of, many_code as many_code_of, branch_code as branch_code_of, zero_branch_code as zero_branch_code_of, nothing_code as nothing_code_of, half_code, constant_code as constant_code_of, later_alu_code as later_alu_code_of, later_code};
+ghost use Rattle.thumb_instr.specs.Blocks.{condition_number};
+ghost use Rattle.thumb_encode.specs.HalfCodes.{two_registers as two_registers_of, three_registers as three_registers_of, five_bits as five_bits_of, eight_bits as eight_bits_of, high_registers as high_registers_of, quarter_of, word_of as word_in, add_constant, subtract_constant, add_register, by_code as by_code_of, sum_code as sum_code_of, difference_code as difference_code_of, alu_code as alu_code_of, shift_number as shift_number_of, move_register as move_register_of, mov_code as mov_code_of, mvn_code as mvn_code_of, move_code as move_code_of, compare_registers as compare_registers_of, compare_code as compare_code_of, test_by_code as test_by_code_of, test_code as test_code_of, shift_code as shift_code_of, unary_code as unary_code_of, index_number as index_number_of, word_offset as word_offset_of, offset_code as offset_code_of, place_code as place_code_of, many_code as many_code_of, branch_code as branch_code_of, zero_branch_code as zero_branch_code_of, nothing_code as nothing_code_of, half_code, constant_code as constant_code_of, later_alu_code as later_alu_code_of, later_code};
 
 use bitflags::Flags;
 use mark_word::Shift;
 use thumb_instr::{
-    Access, AccessOp, Alu, AluOp, Branch, Cond, Instr, It, Move, MoveOp, Multi, Nothing, NothingOp,
+    Access, AccessOp, Alu, AluOp, Branch, Instr, It, Move, MoveOp, Multi, Nothing, NothingOp,
     Operand, Place, Reg, ShiftBy, Test, TestOp, Unary, UnaryOp, ZeroBranch,
 };
 
@@ -85,29 +86,6 @@ pub(crate) fn word_of(offset: i32) -> u32
         offset as u32
     } else {
         (offset - i32::MIN) as u32 + 0x8000_0000
-    }
-}
-
-pub(crate) fn condition_number(c: Cond) -> u16
-    ensures value { result ≡ condition_number_of c }
-    ensures range { result < 15 }
-{
-    match c {
-        Cond::Eq => 0,
-        Cond::Ne => 1,
-        Cond::Cs => 2,
-        Cond::Cc => 3,
-        Cond::Mi => 4,
-        Cond::Pl => 5,
-        Cond::Vs => 6,
-        Cond::Vc => 7,
-        Cond::Hi => 8,
-        Cond::Ls => 9,
-        Cond::Ge => 10,
-        Cond::Lt => 11,
-        Cond::Gt => 12,
-        Cond::Le => 13,
-        Cond::Al => 14,
     }
 }
 
@@ -367,9 +345,9 @@ fn many_code(a: &Multi) -> u16
 }
 
 fn branch_code(a: &Branch) -> u16
-    ensures { result ≡ branch_code_of (condition_number_of a.now.cond) a.now.offset }
+    ensures { result ≡ branch_code_of (condition_number a.now.cond) a.now.offset }
 {
-    let condition = condition_number(a.cond);
+    let condition = a.cond.number() as u16;
     let word = word_of(a.offset);
     if condition == 14 {
         2048 * 28 + (word / 2 % 2048) as u16
@@ -391,9 +369,9 @@ fn zero_branch_code(a: &ZeroBranch) -> u16
 }
 
 fn it_code(a: &It) -> u16
-    ensures { result ≡ 48896 + 16 * condition_number_of a.now.first + a.now.mask % 16 }
+    ensures { result ≡ 48896 + 16 * condition_number a.now.first + a.now.mask % 16 }
 {
-    0xBF00 + 16 * condition_number(a.first) + a.mask as u16 % 16
+    0xBF00 + 16 * a.first.number() as u16 + a.mask as u16 % 16
 }
 
 fn nothing_code(a: &Nothing) -> Option<u16>

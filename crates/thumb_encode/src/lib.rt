@@ -8,7 +8,6 @@ mod full_tests;
 mod given;
 mod half_candidates;
 mod laws;
-mod operand_tests;
 
 pub use codes::{Code, Width};
 pub use encoding::encode;

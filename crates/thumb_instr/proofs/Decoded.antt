@@ -1,20 +1,16 @@
 -- What is told of the instructions that halfwords stand for.
-use Rattle.std.proofs.Common.{◌≡◌, ◌≤◌, ◌*◌, ◌+◌, ◌^◌, ℕ, Bool, true, false, Ok, refl, arith, ap, ◌∙◌}
+use Rattle.std.proofs.Common.{◌≡◌, ◌*◌, ◌+◌, ◌^◌, ℕ, Bool, true, false, Ok, refl, arith, ap}
 use Rattle.std.specs.Prelude.{◌==◌, ◌&&◌, ◌||◌, if◌then◌else◌}
-use Rattle.std.proofs.lemmas.Bool.{cases_Bool}
 use Rattle.std.proofs.lemmas.Bool.Decides.{nat_tests}
-use Rattle.mark_word.specs.declared.numbers.Shift.{Shift}
 use Rattle.mark_word.specs.declared.numbers.Shift.TheVariants.{Lsl, Lsr, Asr, Ror, Rrx}
 use Rattle.thumb_instr.specs.declared.operands.Operand.{Operand}
 use Rattle.thumb_instr.specs.declared.operands.Operand.TheVariants.{Imm, Reg}
-use Rattle.thumb_instr.specs.declared.operations.AluOp.{AluOp}
-use Rattle.thumb_instr.specs.declared.operations.AluOp.TheVariants.{And, Bic, Orr, Orn, Eor, Add, Adc, Sbc, Sub, Rsb}
 use Rattle.thumb_instr.specs.declared.refusals.ItPlace.{ItPlace}
 use Rattle.thumb_instr.specs.declared.instructions.Instr.{Instr}
 use Rattle.thumb_instr.specs.declared.instructions.Instr.TheVariants.{Alu, Move, Test, ShiftBy, Wide, Half, Field, Unary, Mul, MulAcc, LongMul, Div, Access, Pair, Multi, Literal, Adr, Branch, ZeroBranch, Call, Jump, CallReg, It, Nothing, Trap}
 use Rattle.thumb_instr.specs.Patterns.{decoded}
 use Rattle.thumb_instr.specs.DataRows.{is_rrx}
-use Rattle.thumb_instr.specs.Sets.{reads_of, sets_flags_of, operand_reads_of, sums_with_carry, logic_flags_of}
+use Rattle.thumb_instr.specs.Sets.{reads_of, sets_flags_of, operand_reads_of, sums_with_carry}
 use Rattle.thumb_instr.specs.HalfRows.{half_rows}
 use Rattle.thumb_instr.specs.FullRows.{full_rows}
 use Rattle.thumb_instr.specs.Rows.{is_wide, decode}

@@ -1,12 +1,10 @@
 -- What is told of the answers of rows: they are formed, do not both read and set C, and need not be of two halfwords.
-use Rattle.std.proofs.Common.{◌≡◌, ◌≤◌, ◌<◌, ◌≢◌, ℕ, zero, suc, ◌+◌, ◌-◌, ◌*◌, ◌/◌, ◌%◌, ◌^◌, Bool, true, false, List, [], ◌∷◌, Option, Some, None, Ok, Err, refl, sym, ◌∙◌, subst, arith, lit≤, ℤ}
-use Rattle.std.specs.Prelude.{◌==◌, ◌&&◌, ◌||◌, not, ⊤, if◌then◌else◌}
+use Rattle.std.proofs.Common.{◌≡◌, ◌<◌, ℕ, ◌+◌, ◌-◌, ◌*◌, ◌/◌, ◌^◌, Bool, true, false, List, [], ◌∷◌, Option, Some, None, Ok, Err, refl, subst, arith, lit≤, ℤ}
+use Rattle.std.specs.Prelude.{◌==◌, ◌&&◌, ◌||◌, ⊤, if◌then◌else◌}
 use Rattle.std.proofs.Math.Nat.{mod-lt}
 use Rattle.std.proofs.lemmas.Nat.{pow_pos}
 use Rattle.std.proofs.lemmas.Bool.{true≢false, eqb-false}
-use Rattle.std.proofs.lemmas.Bool.Decides.{nat_tests}
 use Rattle.mark_word.specs.declared.numbers.Shift.{Shift}
-use Rattle.mark_word.specs.declared.numbers.Shift.TheVariants.{Lsl, Lsr, Asr, Ror, Rrx}
 use Rattle.thumb_instr.specs.declared.operations.AluOp.{AluOp}
 use Rattle.thumb_instr.specs.declared.operations.MoveOp.{MoveOp}
 use Rattle.thumb_instr.specs.declared.operations.TestOp.{TestOp}
@@ -22,19 +20,14 @@ use Rattle.thumb_instr.specs.declared.places.Place.{Place}
 use Rattle.thumb_instr.specs.declared.places.PairIndex.{PairIndex}
 use Rattle.thumb_instr.specs.declared.conditions.Cond.{Cond}
 use Rattle.thumb_instr.specs.declared.refusals.BadInstr.{BadInstr}
-use Rattle.thumb_instr.specs.declared.refusals.BadInstr.TheVariants.{PcOperand}
-use Rattle.thumb_instr.specs.declared.refusals.ItPlace.{ItPlace}
 use Rattle.thumb_instr.specs.declared.instructions.Instr.{Instr}
 use Rattle.thumb_instr.specs.declared.instructions.Instr.TheVariants as instr
 use Rattle.thumb_instr.specs.Operands.{is_operand, is_list}
-use Rattle.thumb_instr.specs.Patterns.{Bits, Fixed, Field, Made, Row, Answer, cut, fits, filled_in, decoded, refused}
+use Rattle.thumb_instr.specs.Patterns.{Bits, Fixed, Field, Made, Row, Answer, cut, fits, filled_in, decoded}
 use Rattle.thumb_instr.specs.Meanings.{on_condition, when, alu, move, test, shift_by, wide, half, field, unary, mul, mul_acc, long_mul, div, access, pair, multi, literal, adr, branch, zero_branch, call, jump, call_reg, it, nothing, trap}
 use Rattle.thumb_instr.specs.Sets.{sums_with_carry}
-use Rattle.thumb_instr.specs.DataRows.{names, is_rrx, shifted, alu_row, move_row, test_row, or_test, or_move, data_processing}
-use Rattle.thumb_instr.specs.HalfRows.{half_rows}
-use Rattle.thumb_instr.specs.FullRows.{on_plain, many, two_words, exclusive, dual, wide_row, extract, insert, on_condition_branch, on_access, access_row, by_byte, by_register, product, full_rows}
-use Rattle.thumb_instr.specs.Rows.{is_wide, decode}
-use Rattle.thumb_instr.specs.Formed.{IsRegister, IsSource, OperandNamesRegisters, PlaceNamesRegisters, IsFormed, LoadsPc, is_always_wide}
+use Rattle.thumb_instr.specs.DataRows.{names, is_rrx, shifted}
+use Rattle.thumb_instr.specs.Formed.{IsRegister, IsSource, OperandNamesRegisters, PlaceNamesRegisters, IsFormed, is_always_wide}
 
 -- The instruction uses the carry, and sets flags where it may set C.
 abbrev pub carries : Instr → Bool

@@ -15,7 +15,7 @@ use Rattle.thumb_instr.specs.declared.places.Place.{Place}
 use Rattle.thumb_instr.specs.declared.places.PairIndex.{PairIndex}
 use Rattle.thumb_instr.specs.declared.refusals.BadInstr.TheVariants.{PcOperand}
 use Rattle.thumb_instr.specs.declared.refusals.ItPlace.{ItPlace}
-use Rattle.thumb_instr.specs.Patterns.{Answer, refused}
+use Rattle.thumb_instr.specs.Patterns.{Answer}
 use Rattle.thumb_instr.specs.DataRows.{alu_row, move_row, test_row, or_test, or_move, data_processing}
 use Rattle.thumb_instr.specs.FullRows.{on_plain, many, two_words, exclusive, dual, wide_row, extract, insert, on_condition_branch, on_access, access_row, by_byte, by_register, product, full_rows}
 

@@ -1,12 +1,11 @@
 -- Whether a place takes an instruction with a number does not depend on the number, a row at a time.
 use Rattle.std.proofs.Common.{◌≡◌, ℕ, zero, suc, ◌+◌, ◌-◌, ◌*◌, ◌^◌, Bool, true, false, List, [], ◌∷◌, Option, Some, None, Ok, Err, refl, sym, ◌∙◌, ap, subst, arith, ℤ}
-use Rattle.std.specs.Prelude.{◌==◌, ◌||◌, not, nat_lt, slice_get, if◌then◌else◌}
+use Rattle.std.specs.Prelude.{◌==◌, not, nat_lt, slice_get, if◌then◌else◌}
 use Rattle.std.proofs.lemmas.Bool.{true≢false}
 use Rattle.std.proofs.lemmas.Bool.Decides.{nat_tests}
-use Rattle.thumb_instr.specs.declared.refusals.ItPlace.TheVariants.{Outside, Inside, Last}
+use Rattle.thumb_instr.specs.declared.refusals.ItPlace.TheVariants.{Outside}
 use Rattle.thumb_instr.specs.declared.conditions.Cond.TheVariants.{Al}
 use Rattle.thumb_instr.specs.declared.instructions.Instr.TheVariants as instr
-use Rattle.thumb_instr.specs.Fields.{BranchFields, CallFields}
 use Rattle.mark_word.specs.declared.numbers.Shift.{Shift}
 use Rattle.thumb_instr.specs.declared.operations.AluOp.{AluOp}
 use Rattle.thumb_instr.specs.declared.operations.MoveOp.{MoveOp}
@@ -25,8 +24,7 @@ use Rattle.thumb_instr.specs.declared.refusals.BadInstr.{BadInstr}
 use Rattle.thumb_instr.specs.declared.refusals.BadInstr.TheVariants.{Unpredictable, Unknown, SupervisorCall}
 use Rattle.thumb_instr.specs.declared.refusals.ItPlace.{ItPlace}
 use Rattle.thumb_instr.specs.declared.instructions.Instr.{Instr}
-use Rattle.thumb_instr.specs.Operands.{is_operand, is_list}
-use Rattle.thumb_instr.specs.Patterns.{Bits, Fixed, Field, Made, Row, Answer, cut, fits, filled_in, decoded, refused}
+use Rattle.thumb_instr.specs.Patterns.{Bits, Fixed, Field, Made, Row, Answer, cut, fits, filled_in, decoded}
 use Rattle.thumb_instr.specs.Meanings.{is_outside, is_inside, conditions, signed, on_condition, when, alu, move, test, shift_by, wide, half, field, unary, mul, mul_acc, long_mul, div, access, pair, multi, literal, adr, branch, zero_branch, call, jump, call_reg, it, nothing, trap}
 use Rattle.thumb_instr.specs.DataRows.{alu_row, move_row, test_row, or_test, or_move, data_processing}
 use Rattle.thumb_instr.specs.HalfRows.{short_branch, half_rows}

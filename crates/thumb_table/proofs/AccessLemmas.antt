@@ -11,11 +11,11 @@ use Rattle.thumb_table.specs.declared.cores.Core.{Core as Registers}
 use Rattle.thumb_table.specs.declared.faults.FaultKind.TheVariants.{BadAddress}
 use Rattle.thumb_table.specs.Parts.{Memory}
 use Rattle.thumb_table.specs.States.{Core, Site, read, unchanged, upright}
-use Rattle.thumb_table.specs.Effects.{address_of, base_write, size_of, lies_in, accessed, writing, change}
+use Rattle.thumb_table.specs.Effects.{access_address, base_write, size_of, lies_in, accessed, writing, change}
 use Rattle.thumb_table.specs.CoreStates.{core_of, alone}
 use Rattle.thumb_table.specs.Views.{base_list, is_load, loaded_word, stored_cells}
 
-pub address_alone : (n : ℕ) (place : Place) (s : Registers) (m : Memory) → address_of n place (core_of s m) ≡ address_of n place (alone s)
+pub address_alone : (n : ℕ) (place : Place) (s : Registers) (m : Memory) → access_address n place (core_of s m) ≡ access_address n place (alone s)
 address_alone n (Offset up imm) s m = refl
 address_alone n (Pre up imm) s m = refl
 address_alone n (Post up imm) s m = refl
@@ -51,11 +51,11 @@ accessed_store Strh t a x h = refl
 pub record Found (i : AccessFields) (s : Registers) (m : Memory) (op : AccessOp) (n a : ℕ) (base : Option ℕ) : Type 0 where
   pub op_is : op ≡ i.op
   pub n_is : n ≡ i.n
-  pub address_is : a ≡ address_of i.n i.place (alone s)
+  pub address_is : a ≡ access_address i.n i.place (alone s)
   pub base_is : base_list i.n base ≡ base_write i.n i.place (alone s)
   pub lies : lies_in m a (size_of op) ≡ true
 
-pub access_beyond : (i : AccessFields) (site : Site) (s : Registers) (m : Memory) (op : AccessOp) (a : ℕ) → op ≡ i.op → a ≡ address_of i.n i.place (alone s) → lies_in m a (size_of op) ≡ false → change (Access i) site (core_of s m) ≡ Err BadAddress
+pub access_beyond : (i : AccessFields) (site : Site) (s : Registers) (m : Memory) (op : AccessOp) (a : ℕ) → op ≡ i.op → a ≡ access_address i.n i.place (alone s) → lies_in m a (size_of op) ≡ false → change (Access i) site (core_of s m) ≡ Err BadAddress
 unfolding change
 access_beyond i site s m op a same e out = rw (address_alone i.n i.place s m, ← e, ← same, out) refl
 

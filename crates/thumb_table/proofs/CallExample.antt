@@ -1,9 +1,9 @@
 -- Images of small objects, against those of a linker that was made apart from these definitions.
-use Rattle.std.specs.Prelude.{Contains, ◌≡◌, ℕ, List, [], ◌∷◌, ◌+◌, ◌-◌, ◌*◌, length, map, get_or, true, false, refl, codes}
+use Rattle.std.specs.Prelude.{◌≡◌, ℕ, List, [], ◌∷◌, ◌+◌, ◌-◌, ◌*◌, length, map, get_or, true, false, refl, codes}
 use Rattle.elf_model.specs.declared.objects.Home.TheVariants as home
 use Rattle.elf_model.specs.declared.objects.RelocKind.TheVariants.{ThmCall}
 use Rattle.elf_model.specs.Fields.{byte_at}
-use Rattle.elf_model.specs.Objects.{ObjectParts, is_object, is_code, is_data}
+use Rattle.elf_model.specs.Objects.{ObjectParts, is_object}
 use Rattle.elf_model.specs.Ranges.{length_at}
 use Rattle.mark_word.specs.declared.marks.Mark.TheVariants.{Plain}
 use Rattle.mark_word.specs.Words.{Cell, bare}
@@ -13,13 +13,11 @@ use Rattle.thumb_table.specs.declared.placements.Placement.{Placement}
 use Rattle.reloc_places.specs.Starts.{decoded_at}
 use Rattle.thumb_table.specs.Layouts.{all_placed, as_part, code_bytes_of, data_bytes_of}
 use Rattle.thumb_table.specs.Names.{entries_of}
-use Rattle.thumb_table.specs.Links.{Link, IsLink, IsWritten, AreWritten, place_of, value_of, full, mark_of, is_in_range}
+use Rattle.thumb_table.specs.Links.{Link, IsLink, place_of, value_of, full, mark_of, is_in_range}
 use Rattle.thumb_table.specs.Images.{IsLinkedCode, IsLinkedData}
 use Rattle.thumb_table.proofs.LinkChecks.{links, free, renumbered_answer}
-use Rattle.elf_model.proofs.Elements.{contains_cases, contains_none}
-use Rattle.thumb_table.proofs.LinkLists.{has_link}
-use Rattle.thumb_table.proofs.LinkComparing.{code_elsewhere, data_elsewhere, instr_of}
-use Rattle.std.proofs.Common.{inl, inr, subst}
+use Rattle.thumb_table.proofs.LinkComparing.{instr_of}
+use Rattle.thumb_table.proofs.LinkEach.{EachLink, InCode, InData, linked_code_is, linked_data_is}
 use Rattle.std.proofs.lemmas.Bool.{both_ways}
 
 -- a call to a function of another object
@@ -112,44 +110,19 @@ pub call_mark0 : mark_of (all_placed call_objects call_at) call_link0 ≡ Plain
 unfolding full_rows half_rows on_condition_branch
 call_mark0 = refl
 
-abbrev pub call_rest1 : List Link
-call_rest1 = []
+call_are_links : EachLink (IsLink call_objects call_at) (links call_objects call_at)
+call_are_links = (call_is_link0, tt)
 
-abbrev pub call_rest0 : List Link
-call_rest0 = call_link0 ∷ call_rest1
-
-call_sound : (l : Link) → Contains (links call_objects call_at) l → IsLink call_objects call_at l
-call_sound l h =
-    elim (contains_cases call_link0 call_rest1 l h) [
-      | inl e0 ↦ subst (λ (m : Link). IsLink call_objects call_at m) e0 call_is_link0
-      | inr r0 ↦ absurd (contains_none l r0)
-    ]
-
-call_in_code0 : is_code (call_link0).part.section ≡ true → IsWritten (all_placed call_objects call_at) call_code 32768 call_link0
+call_in_code0 : InCode call_objects call_at call_code call_link0
 unfolding full_rows half_rows on_condition_branch
 call_in_code0 = λ c. record { of_word = λ h. absurd (both_ways false refl h); of_instr = λ h. record { instr = instr_of (decoded_at (call_link0).part.section.bytes 2 0) refl; was = refl; becomes = refl; width = refl } }
 
-call_in_data0 : is_data (call_link0).part.section ≡ true → AreWritten (all_placed call_objects call_at) call_cells 32832 call_link0
+call_in_data0 : InData call_objects call_at call_cells call_link0
 unfolding full_rows half_rows on_condition_branch
 call_in_data0 = λ h. absurd (both_ways false refl h)
 
 pub call_linked_code : IsLinkedCode call_objects call_at call_code
-call_linked_code = record {
-  size = refl;
-  others = code_elsewhere call_objects call_at call_code (links call_objects call_at) call_sound refl refl;
-  linked = λ l is. elim (contains_cases call_link0 call_rest1 l (has_link call_objects call_at l is)) [
-    | inl e0 ↦ subst (λ (m : Link). is_code m.part.section ≡ true → IsWritten (all_placed call_objects call_at) call_code 32768 m) e0 call_in_code0
-    | inr r0 ↦ absurd (contains_none l r0)
-  ];
-}
+call_linked_code = linked_code_is call_objects call_at call_code call_are_links refl refl (call_in_code0, tt)
 
 pub call_linked_data : IsLinkedData call_objects call_at (record { base = 32832; cells = call_cells })
-call_linked_data = record {
-  base = refl;
-  size = refl;
-  others = data_elsewhere call_objects call_at call_cells (links call_objects call_at) call_sound refl refl;
-  linked = λ l is. elim (contains_cases call_link0 call_rest1 l (has_link call_objects call_at l is)) [
-    | inl e0 ↦ subst (λ (m : Link). is_data m.part.section ≡ true → AreWritten (all_placed call_objects call_at) call_cells 32832 m) e0 call_in_data0
-    | inr r0 ↦ absurd (contains_none l r0)
-  ];
-}
+call_linked_data = linked_data_is call_objects call_at call_cells call_are_links refl refl (call_in_data0, tt)

@@ -14,7 +14,7 @@ use Rattle.thumb_instr.specs.declared.instructions.Instr.TheVariants as instr
 use Rattle.thumb_table.specs.declared.faults.FaultKind.TheVariants as fault
 use Rattle.thumb_table.specs.States.{Core, Site, unchanged}
 use Rattle.thumb_table.specs.Values.{Given, Computed, computed, tested, extended, field_of, with_field, unary, rotated, long_product, quotient, signed_quotient, moved}
-use Rattle.thumb_table.specs.Effects.{change, number, writing}
+use Rattle.thumb_table.specs.Effects.{change, plain_write, writing}
 
 abbrev of : ℕ → Given
 of n = record { value = n; carry = None }
@@ -141,12 +141,12 @@ before regs = record { regs = regs; n = false; z = false; c = true; v = true; it
 
 -- MULS sets N and Z alone
 muls : change (instr.Mul (record { s = true; d = 0; n = 0; m = 1 })) nowhere (before (plain 0x80000000 ∷ plain 1 ∷ []))
-    ≡ Ok (record (number 0 0x80000000) { n = Some true; z = Some false })
+    ≡ Ok (record (plain_write 0 0x80000000) { n = Some true; z = Some false })
 unfolding change
 muls = refl
 
 mls : change (instr.MulAcc (record { minus = true; d = 0; n = 0; m = 1; a = 2 })) nowhere (before (plain 3 ∷ plain 5 ∷ plain 10 ∷ []))
-    ≡ Ok (number 0 0xFFFFFFFB)
+    ≡ Ok (plain_write 0 0xFFFFFFFB)
 unfolding change
 mls = refl
 
@@ -169,17 +169,17 @@ cmp = refl
 
 -- a shift by 0 leaves C; by 32 it is the last bit shifted out, and beyond that 0
 lsls-none : change (instr.ShiftBy (record { kind = Lsl; s = true; d = 0; n = 0; m = 1 })) nowhere (before (plain 1 ∷ plain 0x100 ∷ []))
-    ≡ Ok (record (number 0 1) { n = Some false; z = Some false })
+    ≡ Ok (record (plain_write 0 1) { n = Some false; z = Some false })
 unfolding change
 lsls-none = refl
 
 lsls-32 : change (instr.ShiftBy (record { kind = Lsl; s = true; d = 0; n = 0; m = 1 })) nowhere (before (plain 1 ∷ plain 32 ∷ []))
-    ≡ Ok (record (number 0 0) { n = Some false; z = Some true; c = Some true })
+    ≡ Ok (record (plain_write 0 0) { n = Some false; z = Some true; c = Some true })
 unfolding change
 lsls-32 = refl
 
 lsrs-33 : change (instr.ShiftBy (record { kind = Lsr; s = true; d = 0; n = 0; m = 1 })) nowhere (before (plain 0xFFFFFFFF ∷ plain 33 ∷ []))
-    ≡ Ok (record (number 0 0) { n = Some false; z = Some true; c = Some false })
+    ≡ Ok (record (plain_write 0 0) { n = Some false; z = Some true; c = Some false })
 unfolding change
 lsrs-33 = refl
 
@@ -190,7 +190,7 @@ unfolding change
 mov-marked = refl
 
 mov-shifted : change (instr.Move (record { op = Mov; s = false; d = 0; x = Reg 1 Lsl 1 })) nowhere (before (plain 0 ∷ record { bits = 9; mark = Entry 9 } ∷ []))
-    ≡ Ok (number 0 18)
+    ≡ Ok (plain_write 0 18)
 unfolding change
 mov-shifted = refl
 
@@ -201,6 +201,6 @@ unfolding change
 mov-askew = refl
 
 bfi-changes : change (instr.Field (record { op = Bfi; d = 0; n = Some 1; lsb = 4; width = 4 })) nowhere (before (plain 0x111 ∷ plain 0xAB ∷ []))
-    ≡ Ok (number 0 0x1B1)
+    ≡ Ok (plain_write 0 0x1B1)
 unfolding change
 bfi-changes = refl

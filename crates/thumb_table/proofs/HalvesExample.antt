@@ -1,9 +1,9 @@
 -- Images of small objects, against those of a linker that was made apart from these definitions.
-use Rattle.std.specs.Prelude.{Contains, ◌≡◌, ℕ, List, [], ◌∷◌, ◌+◌, ◌-◌, ◌*◌, length, map, get_or, Some, true, false, refl, codes}
+use Rattle.std.specs.Prelude.{◌≡◌, ℕ, List, [], ◌∷◌, ◌+◌, ◌-◌, ◌*◌, length, map, get_or, Some, true, false, refl, codes}
 use Rattle.elf_model.specs.declared.objects.Home.TheVariants as home
 use Rattle.elf_model.specs.declared.objects.RelocKind.TheVariants.{Abs32, Target1, ThmCall, MovwAbs, MovtAbs}
 use Rattle.elf_model.specs.Fields.{byte_at}
-use Rattle.elf_model.specs.Objects.{ObjectParts, is_object, is_code, is_data}
+use Rattle.elf_model.specs.Objects.{ObjectParts, is_object}
 use Rattle.elf_model.specs.Ranges.{length_at}
 use Rattle.mark_word.specs.declared.marks.Mark.TheVariants.{Plain, Entry, Low}
 use Rattle.mark_word.specs.Words.{Cell, bare}
@@ -13,13 +13,11 @@ use Rattle.thumb_table.specs.declared.placements.Placement.{Placement}
 use Rattle.reloc_places.specs.Starts.{decoded_at}
 use Rattle.thumb_table.specs.Layouts.{all_placed, as_part, code_bytes_of, data_bytes_of}
 use Rattle.thumb_table.specs.Names.{entries_of}
-use Rattle.thumb_table.specs.Links.{Link, IsLink, IsWritten, AreWritten, place_of, value_of, full, mark_of, is_in_range}
+use Rattle.thumb_table.specs.Links.{Link, IsLink, AreWritten, place_of, value_of, full, mark_of, is_in_range}
 use Rattle.thumb_table.specs.Images.{IsLinkedCode, IsLinkedData}
 use Rattle.thumb_table.proofs.LinkChecks.{links, free, renumbered_answer}
-use Rattle.elf_model.proofs.Elements.{contains_cases, contains_none}
-use Rattle.thumb_table.proofs.LinkLists.{has_link}
-use Rattle.thumb_table.proofs.LinkComparing.{code_elsewhere, data_elsewhere, instr_of}
-use Rattle.std.proofs.Common.{inl, inr, subst}
+use Rattle.thumb_table.proofs.LinkComparing.{instr_of}
+use Rattle.thumb_table.proofs.LinkEach.{EachLink, InCode, InData, linked_code_is, linked_data_is}
 use Rattle.std.proofs.lemmas.Bool.{both_ways}
 
 -- halves with addends, calls backwards, alignments, a word at an odd offset, a weak symbol that means data of another object
@@ -316,184 +314,75 @@ pub mixed_written7 : AreWritten (all_placed mixed_objects mixed_at) mixed_cells 
 unfolding full_rows half_rows on_condition_branch
 mixed_written7 = refl
 
-abbrev pub mixed_rest8 : List Link
-mixed_rest8 = []
+mixed_are_links : EachLink (IsLink mixed_objects mixed_at) (links mixed_objects mixed_at)
+mixed_are_links = (mixed_is_link0, (mixed_is_link1, (mixed_is_link2, (mixed_is_link3, (mixed_is_link4, (mixed_is_link5, (mixed_is_link6, (mixed_is_link7, tt))))))))
 
-abbrev pub mixed_rest7 : List Link
-mixed_rest7 = mixed_link7 ∷ mixed_rest8
-
-abbrev pub mixed_rest6 : List Link
-mixed_rest6 = mixed_link6 ∷ mixed_rest7
-
-abbrev pub mixed_rest5 : List Link
-mixed_rest5 = mixed_link5 ∷ mixed_rest6
-
-abbrev pub mixed_rest4 : List Link
-mixed_rest4 = mixed_link4 ∷ mixed_rest5
-
-abbrev pub mixed_rest3 : List Link
-mixed_rest3 = mixed_link3 ∷ mixed_rest4
-
-abbrev pub mixed_rest2 : List Link
-mixed_rest2 = mixed_link2 ∷ mixed_rest3
-
-abbrev pub mixed_rest1 : List Link
-mixed_rest1 = mixed_link1 ∷ mixed_rest2
-
-abbrev pub mixed_rest0 : List Link
-mixed_rest0 = mixed_link0 ∷ mixed_rest1
-
-mixed_sound : (l : Link) → Contains (links mixed_objects mixed_at) l → IsLink mixed_objects mixed_at l
-mixed_sound l h =
-    elim (contains_cases mixed_link0 mixed_rest1 l h) [
-      | inl e0 ↦ subst (λ (m : Link). IsLink mixed_objects mixed_at m) e0 mixed_is_link0
-      | inr r0 ↦ elim (contains_cases mixed_link1 mixed_rest2 l r0) [
-        | inl e1 ↦ subst (λ (m : Link). IsLink mixed_objects mixed_at m) e1 mixed_is_link1
-        | inr r1 ↦ elim (contains_cases mixed_link2 mixed_rest3 l r1) [
-          | inl e2 ↦ subst (λ (m : Link). IsLink mixed_objects mixed_at m) e2 mixed_is_link2
-          | inr r2 ↦ elim (contains_cases mixed_link3 mixed_rest4 l r2) [
-            | inl e3 ↦ subst (λ (m : Link). IsLink mixed_objects mixed_at m) e3 mixed_is_link3
-            | inr r3 ↦ elim (contains_cases mixed_link4 mixed_rest5 l r3) [
-              | inl e4 ↦ subst (λ (m : Link). IsLink mixed_objects mixed_at m) e4 mixed_is_link4
-              | inr r4 ↦ elim (contains_cases mixed_link5 mixed_rest6 l r4) [
-                | inl e5 ↦ subst (λ (m : Link). IsLink mixed_objects mixed_at m) e5 mixed_is_link5
-                | inr r5 ↦ elim (contains_cases mixed_link6 mixed_rest7 l r5) [
-                  | inl e6 ↦ subst (λ (m : Link). IsLink mixed_objects mixed_at m) e6 mixed_is_link6
-                  | inr r6 ↦ elim (contains_cases mixed_link7 mixed_rest8 l r6) [
-                    | inl e7 ↦ subst (λ (m : Link). IsLink mixed_objects mixed_at m) e7 mixed_is_link7
-                    | inr r7 ↦ absurd (contains_none l r7)
-                  ]
-                ]
-              ]
-            ]
-          ]
-        ]
-      ]
-    ]
-
-mixed_in_code0 : is_code (mixed_link0).part.section ≡ true → IsWritten (all_placed mixed_objects mixed_at) mixed_code 28672 mixed_link0
+mixed_in_code0 : InCode mixed_objects mixed_at mixed_code mixed_link0
 unfolding full_rows half_rows on_condition_branch
 mixed_in_code0 = λ c. record { of_word = λ h. absurd (both_ways false refl h); of_instr = λ h. record { instr = instr_of (decoded_at (mixed_link0).part.section.bytes 0 0) refl; was = refl; becomes = refl; width = refl } }
 
-mixed_in_data0 : is_data (mixed_link0).part.section ≡ true → AreWritten (all_placed mixed_objects mixed_at) mixed_cells 28736 mixed_link0
+mixed_in_data0 : InData mixed_objects mixed_at mixed_cells mixed_link0
 unfolding full_rows half_rows on_condition_branch
 mixed_in_data0 = λ h. absurd (both_ways false refl h)
 
-mixed_in_code1 : is_code (mixed_link1).part.section ≡ true → IsWritten (all_placed mixed_objects mixed_at) mixed_code 28672 mixed_link1
+mixed_in_code1 : InCode mixed_objects mixed_at mixed_code mixed_link1
 unfolding full_rows half_rows on_condition_branch
 mixed_in_code1 = λ c. record { of_word = λ h. absurd (both_ways false refl h); of_instr = λ h. record { instr = instr_of (decoded_at (mixed_link1).part.section.bytes 4 0) refl; was = refl; becomes = refl; width = refl } }
 
-mixed_in_data1 : is_data (mixed_link1).part.section ≡ true → AreWritten (all_placed mixed_objects mixed_at) mixed_cells 28736 mixed_link1
+mixed_in_data1 : InData mixed_objects mixed_at mixed_cells mixed_link1
 unfolding full_rows half_rows on_condition_branch
 mixed_in_data1 = λ h. absurd (both_ways false refl h)
 
-mixed_in_code2 : is_code (mixed_link2).part.section ≡ true → IsWritten (all_placed mixed_objects mixed_at) mixed_code 28672 mixed_link2
+mixed_in_code2 : InCode mixed_objects mixed_at mixed_code mixed_link2
 unfolding full_rows half_rows on_condition_branch
 mixed_in_code2 = λ c. record { of_word = λ h. absurd (both_ways false refl h); of_instr = λ h. record { instr = instr_of (decoded_at (mixed_link2).part.section.bytes 8 0) refl; was = refl; becomes = refl; width = refl } }
 
-mixed_in_data2 : is_data (mixed_link2).part.section ≡ true → AreWritten (all_placed mixed_objects mixed_at) mixed_cells 28736 mixed_link2
+mixed_in_data2 : InData mixed_objects mixed_at mixed_cells mixed_link2
 unfolding full_rows half_rows on_condition_branch
 mixed_in_data2 = λ h. absurd (both_ways false refl h)
 
-mixed_in_code3 : is_code (mixed_link3).part.section ≡ true → IsWritten (all_placed mixed_objects mixed_at) mixed_code 28672 mixed_link3
+mixed_in_code3 : InCode mixed_objects mixed_at mixed_code mixed_link3
 unfolding full_rows half_rows on_condition_branch
 mixed_in_code3 = λ h. absurd (both_ways false refl h)
 
-mixed_in_data3 : is_data (mixed_link3).part.section ≡ true → AreWritten (all_placed mixed_objects mixed_at) mixed_cells 28736 mixed_link3
+mixed_in_data3 : InData mixed_objects mixed_at mixed_cells mixed_link3
 unfolding full_rows half_rows on_condition_branch
 mixed_in_data3 = λ d. mixed_written3
 
-mixed_in_code4 : is_code (mixed_link4).part.section ≡ true → IsWritten (all_placed mixed_objects mixed_at) mixed_code 28672 mixed_link4
+mixed_in_code4 : InCode mixed_objects mixed_at mixed_code mixed_link4
 unfolding full_rows half_rows on_condition_branch
 mixed_in_code4 = λ c. record { of_word = λ h. absurd (both_ways false refl h); of_instr = λ h. record { instr = instr_of (decoded_at (mixed_link4).part.section.bytes 0 0) refl; was = refl; becomes = refl; width = refl } }
 
-mixed_in_data4 : is_data (mixed_link4).part.section ≡ true → AreWritten (all_placed mixed_objects mixed_at) mixed_cells 28736 mixed_link4
+mixed_in_data4 : InData mixed_objects mixed_at mixed_cells mixed_link4
 unfolding full_rows half_rows on_condition_branch
 mixed_in_data4 = λ h. absurd (both_ways false refl h)
 
-mixed_in_code5 : is_code (mixed_link5).part.section ≡ true → IsWritten (all_placed mixed_objects mixed_at) mixed_code 28672 mixed_link5
+mixed_in_code5 : InCode mixed_objects mixed_at mixed_code mixed_link5
 unfolding full_rows half_rows on_condition_branch
 mixed_in_code5 = λ c. record { of_word = λ h. absurd (both_ways false refl h); of_instr = λ h. record { instr = instr_of (decoded_at (mixed_link5).part.section.bytes 4 0) refl; was = refl; becomes = refl; width = refl } }
 
-mixed_in_data5 : is_data (mixed_link5).part.section ≡ true → AreWritten (all_placed mixed_objects mixed_at) mixed_cells 28736 mixed_link5
+mixed_in_data5 : InData mixed_objects mixed_at mixed_cells mixed_link5
 unfolding full_rows half_rows on_condition_branch
 mixed_in_data5 = λ h. absurd (both_ways false refl h)
 
-mixed_in_code6 : is_code (mixed_link6).part.section ≡ true → IsWritten (all_placed mixed_objects mixed_at) mixed_code 28672 mixed_link6
+mixed_in_code6 : InCode mixed_objects mixed_at mixed_code mixed_link6
 unfolding full_rows half_rows on_condition_branch
 mixed_in_code6 = λ c. record { of_word = λ h. absurd (both_ways false refl h); of_instr = λ h. record { instr = instr_of (decoded_at (mixed_link6).part.section.bytes 8 0) refl; was = refl; becomes = refl; width = refl } }
 
-mixed_in_data6 : is_data (mixed_link6).part.section ≡ true → AreWritten (all_placed mixed_objects mixed_at) mixed_cells 28736 mixed_link6
+mixed_in_data6 : InData mixed_objects mixed_at mixed_cells mixed_link6
 unfolding full_rows half_rows on_condition_branch
 mixed_in_data6 = λ h. absurd (both_ways false refl h)
 
-mixed_in_code7 : is_code (mixed_link7).part.section ≡ true → IsWritten (all_placed mixed_objects mixed_at) mixed_code 28672 mixed_link7
+mixed_in_code7 : InCode mixed_objects mixed_at mixed_code mixed_link7
 unfolding full_rows half_rows on_condition_branch
 mixed_in_code7 = λ h. absurd (both_ways false refl h)
 
-mixed_in_data7 : is_data (mixed_link7).part.section ≡ true → AreWritten (all_placed mixed_objects mixed_at) mixed_cells 28736 mixed_link7
+mixed_in_data7 : InData mixed_objects mixed_at mixed_cells mixed_link7
 unfolding full_rows half_rows on_condition_branch
 mixed_in_data7 = λ d. mixed_written7
 
 pub mixed_linked_code : IsLinkedCode mixed_objects mixed_at mixed_code
-mixed_linked_code = record {
-  size = refl;
-  others = code_elsewhere mixed_objects mixed_at mixed_code (links mixed_objects mixed_at) mixed_sound refl refl;
-  linked = λ l is. elim (contains_cases mixed_link0 mixed_rest1 l (has_link mixed_objects mixed_at l is)) [
-    | inl e0 ↦ subst (λ (m : Link). is_code m.part.section ≡ true → IsWritten (all_placed mixed_objects mixed_at) mixed_code 28672 m) e0 mixed_in_code0
-    | inr r0 ↦ elim (contains_cases mixed_link1 mixed_rest2 l r0) [
-      | inl e1 ↦ subst (λ (m : Link). is_code m.part.section ≡ true → IsWritten (all_placed mixed_objects mixed_at) mixed_code 28672 m) e1 mixed_in_code1
-      | inr r1 ↦ elim (contains_cases mixed_link2 mixed_rest3 l r1) [
-        | inl e2 ↦ subst (λ (m : Link). is_code m.part.section ≡ true → IsWritten (all_placed mixed_objects mixed_at) mixed_code 28672 m) e2 mixed_in_code2
-        | inr r2 ↦ elim (contains_cases mixed_link3 mixed_rest4 l r2) [
-          | inl e3 ↦ subst (λ (m : Link). is_code m.part.section ≡ true → IsWritten (all_placed mixed_objects mixed_at) mixed_code 28672 m) e3 mixed_in_code3
-          | inr r3 ↦ elim (contains_cases mixed_link4 mixed_rest5 l r3) [
-            | inl e4 ↦ subst (λ (m : Link). is_code m.part.section ≡ true → IsWritten (all_placed mixed_objects mixed_at) mixed_code 28672 m) e4 mixed_in_code4
-            | inr r4 ↦ elim (contains_cases mixed_link5 mixed_rest6 l r4) [
-              | inl e5 ↦ subst (λ (m : Link). is_code m.part.section ≡ true → IsWritten (all_placed mixed_objects mixed_at) mixed_code 28672 m) e5 mixed_in_code5
-              | inr r5 ↦ elim (contains_cases mixed_link6 mixed_rest7 l r5) [
-                | inl e6 ↦ subst (λ (m : Link). is_code m.part.section ≡ true → IsWritten (all_placed mixed_objects mixed_at) mixed_code 28672 m) e6 mixed_in_code6
-                | inr r6 ↦ elim (contains_cases mixed_link7 mixed_rest8 l r6) [
-                  | inl e7 ↦ subst (λ (m : Link). is_code m.part.section ≡ true → IsWritten (all_placed mixed_objects mixed_at) mixed_code 28672 m) e7 mixed_in_code7
-                  | inr r7 ↦ absurd (contains_none l r7)
-                ]
-              ]
-            ]
-          ]
-        ]
-      ]
-    ]
-  ];
-}
+mixed_linked_code = linked_code_is mixed_objects mixed_at mixed_code mixed_are_links refl refl (mixed_in_code0, (mixed_in_code1, (mixed_in_code2, (mixed_in_code3, (mixed_in_code4, (mixed_in_code5, (mixed_in_code6, (mixed_in_code7, tt))))))))
 
 pub mixed_linked_data : IsLinkedData mixed_objects mixed_at (record { base = 28736; cells = mixed_cells })
-mixed_linked_data = record {
-  base = refl;
-  size = refl;
-  others = data_elsewhere mixed_objects mixed_at mixed_cells (links mixed_objects mixed_at) mixed_sound refl refl;
-  linked = λ l is. elim (contains_cases mixed_link0 mixed_rest1 l (has_link mixed_objects mixed_at l is)) [
-    | inl e0 ↦ subst (λ (m : Link). is_data m.part.section ≡ true → AreWritten (all_placed mixed_objects mixed_at) mixed_cells 28736 m) e0 mixed_in_data0
-    | inr r0 ↦ elim (contains_cases mixed_link1 mixed_rest2 l r0) [
-      | inl e1 ↦ subst (λ (m : Link). is_data m.part.section ≡ true → AreWritten (all_placed mixed_objects mixed_at) mixed_cells 28736 m) e1 mixed_in_data1
-      | inr r1 ↦ elim (contains_cases mixed_link2 mixed_rest3 l r1) [
-        | inl e2 ↦ subst (λ (m : Link). is_data m.part.section ≡ true → AreWritten (all_placed mixed_objects mixed_at) mixed_cells 28736 m) e2 mixed_in_data2
-        | inr r2 ↦ elim (contains_cases mixed_link3 mixed_rest4 l r2) [
-          | inl e3 ↦ subst (λ (m : Link). is_data m.part.section ≡ true → AreWritten (all_placed mixed_objects mixed_at) mixed_cells 28736 m) e3 mixed_in_data3
-          | inr r3 ↦ elim (contains_cases mixed_link4 mixed_rest5 l r3) [
-            | inl e4 ↦ subst (λ (m : Link). is_data m.part.section ≡ true → AreWritten (all_placed mixed_objects mixed_at) mixed_cells 28736 m) e4 mixed_in_data4
-            | inr r4 ↦ elim (contains_cases mixed_link5 mixed_rest6 l r4) [
-              | inl e5 ↦ subst (λ (m : Link). is_data m.part.section ≡ true → AreWritten (all_placed mixed_objects mixed_at) mixed_cells 28736 m) e5 mixed_in_data5
-              | inr r5 ↦ elim (contains_cases mixed_link6 mixed_rest7 l r5) [
-                | inl e6 ↦ subst (λ (m : Link). is_data m.part.section ≡ true → AreWritten (all_placed mixed_objects mixed_at) mixed_cells 28736 m) e6 mixed_in_data6
-                | inr r6 ↦ elim (contains_cases mixed_link7 mixed_rest8 l r6) [
-                  | inl e7 ↦ subst (λ (m : Link). is_data m.part.section ≡ true → AreWritten (all_placed mixed_objects mixed_at) mixed_cells 28736 m) e7 mixed_in_data7
-                  | inr r7 ↦ absurd (contains_none l r7)
-                ]
-              ]
-            ]
-          ]
-        ]
-      ]
-    ]
-  ];
-}
+mixed_linked_data = linked_data_is mixed_objects mixed_at mixed_cells mixed_are_links refl refl (mixed_in_data0, (mixed_in_data1, (mixed_in_data2, (mixed_in_data3, (mixed_in_data4, (mixed_in_data5, (mixed_in_data6, (mixed_in_data7, tt))))))))

@@ -15,7 +15,9 @@ pub mod PlainImages
 mod LinkChecks
 mod LinkLists
 mod LinkComparing
+mod LinkEach
 mod CallExample
+mod WeakExample
 mod HalvesExample
 mod NamesExample
 mod Examples

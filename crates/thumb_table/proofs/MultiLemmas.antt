@@ -12,12 +12,12 @@ use Rattle.thumb_table.specs.declared.faults.FaultKind.TheVariants.{BadJump}
 use Rattle.thumb_table.specs.Parts.{Memory}
 use Rattle.thumb_table.specs.States.{Core, Change, Site, is_askew, upright, write_all}
 use Rattle.thumb_table.specs.Steps.{settled}
-use Rattle.thumb_table.specs.Effects.{value, registers, loaded, transferred, after_base, base_moved, bytes_of, lowest, on_words, and_next, jump_if, change, word_at}
+use Rattle.thumb_table.specs.Effects.{value, registers, loaded, transferred, after_base, base_moved, transfer_size, lowest, on_words, and_next, jump_if, change, word_at}
 use Rattle.thumb_table.specs.CoreStates.{core_of, state_of, alone}
 use Rattle.thumb_table.specs.Views.{with_cells, list_change, list_outcome}
 use Rattle.thumb_table.proofs.MarkLemmas.{differs}
 
-pub multi_change : (i : MultiFields) (site : Site) (s : Registers) (m : Memory) (bytes a : ℕ) → bytes ≡ bytes_of i.list.0 i.pc → a ≡ lowest i.down (value (alone s) i.n) bytes
+pub multi_change : (i : MultiFields) (site : Site) (s : Registers) (m : Memory) (bytes a : ℕ) → bytes ≡ transfer_size i.list.0 i.pc → a ≡ lowest i.down (value (alone s) i.n) bytes
     → change (Multi i) site (core_of s m) ≡ on_words m a bytes (list_outcome i a bytes (core_of s m))
 unfolding change
 multi_change i site s m bytes a eb ea = rw (← eb, ← ea) refl

@@ -1,9 +1,9 @@
 -- Images of small objects, against those of a linker that was made apart from these definitions.
-use Rattle.std.specs.Prelude.{Contains, ◌≡◌, ℕ, List, [], ◌∷◌, ◌+◌, ◌*◌, length, map, get_or, Some, true, false, refl, codes}
+use Rattle.std.specs.Prelude.{◌≡◌, ℕ, List, [], ◌∷◌, ◌+◌, ◌*◌, length, map, get_or, Some, true, false, refl, codes}
 use Rattle.elf_model.specs.declared.objects.Home.TheVariants as home
 use Rattle.elf_model.specs.declared.objects.RelocKind.TheVariants.{Abs32}
 use Rattle.elf_model.specs.Fields.{byte_at}
-use Rattle.elf_model.specs.Objects.{ObjectParts, is_object, is_code, is_data}
+use Rattle.elf_model.specs.Objects.{ObjectParts, is_object}
 use Rattle.mark_word.specs.declared.marks.Mark.TheVariants.{Entry}
 use Rattle.mark_word.specs.Words.{Cell, bare}
 use Rattle.thumb_instr.specs.FullRows.{full_rows, on_condition_branch}
@@ -11,13 +11,10 @@ use Rattle.thumb_instr.specs.HalfRows.{half_rows}
 use Rattle.thumb_table.specs.declared.placements.Placement.{Placement}
 use Rattle.thumb_table.specs.Layouts.{all_placed, as_part, code_bytes_of, data_bytes_of}
 use Rattle.thumb_table.specs.Names.{entries_of}
-use Rattle.thumb_table.specs.Links.{Link, IsLink, IsWritten, AreWritten, full, is_in_range}
+use Rattle.thumb_table.specs.Links.{Link, IsLink, AreWritten, full, is_in_range}
 use Rattle.thumb_table.specs.Images.{IsLinkedCode, IsLinkedData}
 use Rattle.thumb_table.proofs.LinkChecks.{links, free}
-use Rattle.elf_model.proofs.Elements.{contains_cases, contains_none}
-use Rattle.thumb_table.proofs.LinkLists.{has_link}
-use Rattle.thumb_table.proofs.LinkComparing.{code_elsewhere, data_elsewhere}
-use Rattle.std.proofs.Common.{inl, inr, subst}
+use Rattle.thumb_table.proofs.LinkEach.{EachLink, InCode, InData, linked_code_is, linked_data_is}
 use Rattle.std.proofs.lemmas.Bool.{both_ways}
 
 -- two weak definitions of a name and a global one
@@ -162,84 +159,35 @@ pub strong_written2 : AreWritten (all_placed strong_objects strong_at) strong_ce
 unfolding full_rows half_rows on_condition_branch
 strong_written2 = refl
 
-abbrev pub strong_rest3 : List Link
-strong_rest3 = []
+strong_are_links : EachLink (IsLink strong_objects strong_at) (links strong_objects strong_at)
+strong_are_links = (strong_is_link0, (strong_is_link1, (strong_is_link2, tt)))
 
-abbrev pub strong_rest2 : List Link
-strong_rest2 = strong_link2 ∷ strong_rest3
-
-abbrev pub strong_rest1 : List Link
-strong_rest1 = strong_link1 ∷ strong_rest2
-
-abbrev pub strong_rest0 : List Link
-strong_rest0 = strong_link0 ∷ strong_rest1
-
-strong_sound : (l : Link) → Contains (links strong_objects strong_at) l → IsLink strong_objects strong_at l
-strong_sound l h =
-    elim (contains_cases strong_link0 strong_rest1 l h) [
-      | inl e0 ↦ subst (λ (m : Link). IsLink strong_objects strong_at m) e0 strong_is_link0
-      | inr r0 ↦ elim (contains_cases strong_link1 strong_rest2 l r0) [
-        | inl e1 ↦ subst (λ (m : Link). IsLink strong_objects strong_at m) e1 strong_is_link1
-        | inr r1 ↦ elim (contains_cases strong_link2 strong_rest3 l r1) [
-          | inl e2 ↦ subst (λ (m : Link). IsLink strong_objects strong_at m) e2 strong_is_link2
-          | inr r2 ↦ absurd (contains_none l r2)
-        ]
-      ]
-    ]
-
-strong_in_code0 : is_code (strong_link0).part.section ≡ true → IsWritten (all_placed strong_objects strong_at) strong_code 32768 strong_link0
+strong_in_code0 : InCode strong_objects strong_at strong_code strong_link0
 unfolding full_rows half_rows on_condition_branch
 strong_in_code0 = λ h. absurd (both_ways false refl h)
 
-strong_in_data0 : is_data (strong_link0).part.section ≡ true → AreWritten (all_placed strong_objects strong_at) strong_cells 32832 strong_link0
+strong_in_data0 : InData strong_objects strong_at strong_cells strong_link0
 unfolding full_rows half_rows on_condition_branch
 strong_in_data0 = λ d. strong_written0
 
-strong_in_code1 : is_code (strong_link1).part.section ≡ true → IsWritten (all_placed strong_objects strong_at) strong_code 32768 strong_link1
+strong_in_code1 : InCode strong_objects strong_at strong_code strong_link1
 unfolding full_rows half_rows on_condition_branch
 strong_in_code1 = λ h. absurd (both_ways false refl h)
 
-strong_in_data1 : is_data (strong_link1).part.section ≡ true → AreWritten (all_placed strong_objects strong_at) strong_cells 32832 strong_link1
+strong_in_data1 : InData strong_objects strong_at strong_cells strong_link1
 unfolding full_rows half_rows on_condition_branch
 strong_in_data1 = λ d. strong_written1
 
-strong_in_code2 : is_code (strong_link2).part.section ≡ true → IsWritten (all_placed strong_objects strong_at) strong_code 32768 strong_link2
+strong_in_code2 : InCode strong_objects strong_at strong_code strong_link2
 unfolding full_rows half_rows on_condition_branch
 strong_in_code2 = λ h. absurd (both_ways false refl h)
 
-strong_in_data2 : is_data (strong_link2).part.section ≡ true → AreWritten (all_placed strong_objects strong_at) strong_cells 32832 strong_link2
+strong_in_data2 : InData strong_objects strong_at strong_cells strong_link2
 unfolding full_rows half_rows on_condition_branch
 strong_in_data2 = λ d. strong_written2
 
 pub strong_linked_code : IsLinkedCode strong_objects strong_at strong_code
-strong_linked_code = record {
-  size = refl;
-  others = code_elsewhere strong_objects strong_at strong_code (links strong_objects strong_at) strong_sound refl refl;
-  linked = λ l is. elim (contains_cases strong_link0 strong_rest1 l (has_link strong_objects strong_at l is)) [
-    | inl e0 ↦ subst (λ (m : Link). is_code m.part.section ≡ true → IsWritten (all_placed strong_objects strong_at) strong_code 32768 m) e0 strong_in_code0
-    | inr r0 ↦ elim (contains_cases strong_link1 strong_rest2 l r0) [
-      | inl e1 ↦ subst (λ (m : Link). is_code m.part.section ≡ true → IsWritten (all_placed strong_objects strong_at) strong_code 32768 m) e1 strong_in_code1
-      | inr r1 ↦ elim (contains_cases strong_link2 strong_rest3 l r1) [
-        | inl e2 ↦ subst (λ (m : Link). is_code m.part.section ≡ true → IsWritten (all_placed strong_objects strong_at) strong_code 32768 m) e2 strong_in_code2
-        | inr r2 ↦ absurd (contains_none l r2)
-      ]
-    ]
-  ];
-}
+strong_linked_code = linked_code_is strong_objects strong_at strong_code strong_are_links refl refl (strong_in_code0, (strong_in_code1, (strong_in_code2, tt)))
 
 pub strong_linked_data : IsLinkedData strong_objects strong_at (record { base = 32832; cells = strong_cells })
-strong_linked_data = record {
-  base = refl;
-  size = refl;
-  others = data_elsewhere strong_objects strong_at strong_cells (links strong_objects strong_at) strong_sound refl refl;
-  linked = λ l is. elim (contains_cases strong_link0 strong_rest1 l (has_link strong_objects strong_at l is)) [
-    | inl e0 ↦ subst (λ (m : Link). is_data m.part.section ≡ true → AreWritten (all_placed strong_objects strong_at) strong_cells 32832 m) e0 strong_in_data0
-    | inr r0 ↦ elim (contains_cases strong_link1 strong_rest2 l r0) [
-      | inl e1 ↦ subst (λ (m : Link). is_data m.part.section ≡ true → AreWritten (all_placed strong_objects strong_at) strong_cells 32832 m) e1 strong_in_data1
-      | inr r1 ↦ elim (contains_cases strong_link2 strong_rest3 l r1) [
-        | inl e2 ↦ subst (λ (m : Link). is_data m.part.section ≡ true → AreWritten (all_placed strong_objects strong_at) strong_cells 32832 m) e2 strong_in_data2
-        | inr r2 ↦ absurd (contains_none l r2)
-      ]
-    ]
-  ];
-}
+strong_linked_data = linked_data_is strong_objects strong_at strong_cells strong_are_links refl refl (strong_in_data0, (strong_in_data1, (strong_in_data2, tt)))

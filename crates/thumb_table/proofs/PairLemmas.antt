@@ -7,12 +7,12 @@ use Rattle.thumb_instr.specs.Fields.{PairFields}
 use Rattle.thumb_table.specs.declared.cores.Core.{Core as Registers}
 use Rattle.thumb_table.specs.Parts.{Memory}
 use Rattle.thumb_table.specs.States.{Core, Site, read, unchanged, upright}
-use Rattle.thumb_table.specs.Effects.{address_of, base_write, pair_place, on_words, from, word_at, writing, change}
+use Rattle.thumb_table.specs.Effects.{access_address, base_write, pair_place, on_words, from, word_at, writing, change}
 use Rattle.thumb_table.specs.CoreStates.{core_of, alone}
 use Rattle.thumb_table.specs.Views.{base_list, pair_outcome}
 use Rattle.thumb_table.proofs.AccessLemmas.{address_alone, base_alone}
 
-pub pair_change : (i : PairFields) (site : Site) (s : Registers) (m : Memory) (a : ℕ) → a ≡ address_of i.n (pair_place i.index i.up i.imm) (alone s)
+pub pair_change : (i : PairFields) (site : Site) (s : Registers) (m : Memory) (a : ℕ) → a ≡ access_address i.n (pair_place i.index i.up i.imm) (alone s)
     → change (Pair i) site (core_of s m) ≡ on_words m a 8 (pair_outcome i a (core_of s m))
 unfolding change
 pair_change i site s m a e = rw (address_alone i.n (pair_place i.index i.up i.imm) s m, ← e) refl

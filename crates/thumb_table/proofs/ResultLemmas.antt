@@ -13,7 +13,7 @@ use Rattle.thumb_table.specs.Parts.{Memory}
 use Rattle.thumb_table.specs.States.{Site, Outcome}
 use Rattle.thumb_table.specs.Effects.{change, operand, moved_word, field_value}
 use Rattle.thumb_table.specs.CoreStates.{core_of, alone}
-use Rattle.thumb_table.specs.Views.{Leads, Makes, Halts}
+use Rattle.thumb_table.specs.Views.{SettlesTo, ChangesTo, Halts}
 
 -- operands don't read memory
 pub operand_alone : (x : Operand) (s : Registers) (m : Memory) → operand x (core_of s m) ≡ operand x (alone s)
@@ -39,7 +39,7 @@ field_alone Bfc d n lsb width s m = refl
 -- An instruction whose change is an outcome makes what the outcome leads to.
 pub makes_of : (i : Instr) (outcome : Outcome) (next : ℕ) (s t : Registers) (r : Result (Unit {0}) FaultKind)
     → ((site : Site) (m : Memory) → change i site (core_of s m) ≡ outcome)
-    → OnOk r (Leads outcome next s t) → OnOk r (Makes i next s t)
+    → OnOk r (SettlesTo outcome next s t) → OnOk r (ChangesTo i next s t)
 makes_of i outcome next s t (Ok u) same h = λ site m. rw (same site m) (h m)
 makes_of i outcome next s t (Err kind) same h = tt
 

@@ -12,14 +12,12 @@ use Rattle.elf_model.specs.declared.refusals.Deny.TheVariants.{NoMemory, Refused
 use Rattle.elf_model.specs.Refusals.{number_of}
 use Rattle.elf_model.specs.Objects.{ObjectParts}
 use Rattle.elf_model.specs.Canonical.{round_up}
+use Rattle.code_ranges.specs.Spots.{spot_in}
 use Rattle.thumb_table.specs.declared.placements.Placement.{Placement}
 use Rattle.reloc_places.specs.Relocations.{IsRight}
 use Rattle.thumb_table.specs.Layouts.{code_bytes_of, data_bytes_of, all_placed}
 use Rattle.thumb_table.specs.Names.{Defined, globals, meant}
 use Rattle.thumb_table.specs.Links.{Link, IsLink, is_in_range}
-
-abbrev pub spot_of : Refusal → ℕ → ℕ → ℕ → Spot
-spot_of r file section offset = record { refusal = r; file = file; section = section; offset = offset }
 
 -- relocation number k of object i
 pub record IsReloc (objects : List ObjectParts) (i k : ℕ) (o : ObjectParts) (r : Reloc) : Type 0 where
@@ -55,26 +53,26 @@ home_section (home.Section j) = j
 pub data LinkFault (objects : List ObjectParts) (at : Placement) : Spot → Type 0 where
   -- a relocation of a kind, or on a place, that is not handled
   misplaced : (i k : ℕ) (o : ObjectParts) (r : Reloc) → IsReloc objects i k o r → ¬ IsRight o k r →
-      LinkFault objects at (spot_of RelocKind i r.section r.offset)
+      LinkFault objects at (spot_in RelocKind i r.section r.offset)
   -- a name that no object defines
   undefined : (i k : ℕ) (r : Reloc) → NamesNothing objects i k r →
       ((h : ℕ) (q : Reloc) → NamesNothing objects i h q → q.section ≡ r.section → k ≤ h) →
-      LinkFault objects at (spot_of (Undefined r.symbol) i r.section 0)
+      LinkFault objects at (spot_in (Undefined r.symbol) i r.section 0)
   -- a second global definition of a name
   defined_twice : (d : Defined) → IsSecond objects d →
       ((e : Defined) → IsSecond objects e → e.object ≡ d.object → home_section e.symbol.home ≡ home_section d.symbol.home → d.index ≤ e.index) →
-      LinkFault objects at (spot_of (Duplicate d.index) d.object (home_section d.symbol.home) 0)
+      LinkFault objects at (spot_in (Duplicate d.index) d.object (home_section d.symbol.home) 0)
   -- code, data and stack, or the image do not fit their places
-  long_code : at.room < length (code_bytes_of objects at) → LinkFault objects at (spot_of DoesNotFit 0 0 0)
-  long_data : 16777216 < round_up (length (data_bytes_of objects at)) 8 + at.stack → LinkFault objects at (spot_of DoesNotFit 0 0 0)
-  high_end : 0x7FFFF000 < at.base + at.room + length (data_bytes_of objects at) → LinkFault objects at (spot_of DoesNotFit 0 0 0)
+  long_code : at.room < length (code_bytes_of objects at) → LinkFault objects at (spot_in DoesNotFit 0 0 0)
+  long_data : 16777216 < round_up (length (data_bytes_of objects at)) 8 + at.stack → LinkFault objects at (spot_in DoesNotFit 0 0 0)
+  high_end : 0x7FFFF000 < at.base + at.room + length (data_bytes_of objects at) → LinkFault objects at (spot_in DoesNotFit 0 0 0)
   -- a value that does not fit its place
   out_of_range : (l : Link) → IsLink objects at l → is_in_range (all_placed objects at) l ≡ false →
-      LinkFault objects at (spot_of RelocRange l.file l.reloc.section l.reloc.offset)
+      LinkFault objects at (spot_in RelocRange l.file l.reloc.section l.reloc.offset)
 
 -- the lowest number comes first, then the lowest object, section and offset
-abbrev pub comes_before : Spot → Spot → Bool
-comes_before s t =
+abbrev pub refused_before : Spot → Spot → Bool
+refused_before s t =
     nat_lt (number_of s.refusal) (number_of t.refusal)
     || ((number_of s.refusal == number_of t.refusal) && (nat_lt s.file t.file
     || ((s.file == t.file) && (nat_lt s.section t.section
@@ -83,7 +81,7 @@ comes_before s t =
 -- what objects are not linked for
 pub record IsLinkRefusal (objects : List ObjectParts) (at : Placement) (spot : Spot) : Type 0 where
   pub fault : LinkFault objects at spot
-  pub first : (s : Spot) → LinkFault objects at s → comes_before s spot ≡ false
+  pub first : (s : Spot) → LinkFault objects at s → refused_before s spot ≡ false
 
 -- why there is no image: want of memory, or a refusal
 abbrev pub IsLinkDenial : List ObjectParts → Placement → Deny → Type 0

@@ -16,16 +16,16 @@ use Rattle.thumb_table.specs.Effects.{change, value, cell_at, word_at, half_at, 
 use Rattle.thumb_table.specs.Steps.{settled}
 
 -- An instruction that doesn't reach memory makes these registers of those.
-abbrev pub Makes : Instr → ℕ → Registers → Registers → Type 0
-Makes i next s t = (site : Site) (m : Memory) → settled next (core_of s m) (change i site (core_of s m)) ≡ Ok (state_of t m)
+abbrev pub ChangesTo : Instr → ℕ → Registers → Registers → Type 0
+ChangesTo i next s t = (site : Site) (m : Memory) → settled next (core_of s m) (change i site (core_of s m)) ≡ Ok (state_of t m)
 
 -- An instruction faults, whatever memory has.
 abbrev pub Halts : Instr → ℕ → Registers → FaultKind → Type 0
 Halts i next s kind = (site : Site) (m : Memory) → settled next (core_of s m) (change i site (core_of s m)) ≡ Err kind
 
 -- An outcome makes these registers of those, whatever memory has.
-abbrev pub Leads : Outcome → ℕ → Registers → Registers → Type 0
-Leads outcome next s t = (m : Memory) → settled next (core_of s m) outcome ≡ Ok (state_of t m)
+abbrev pub SettlesTo : Outcome → ℕ → Registers → Registers → Type 0
+SettlesTo outcome next s t = (m : Memory) → settled next (core_of s m) outcome ≡ Ok (state_of t m)
 
 -- An instruction at pc that ends at `next` makes these registers and this memory of those.
 abbrev pub Turns : CodeBytes → Instr → ℕ → Registers → Memory → Registers → Memory → Type 0

@@ -5,7 +5,7 @@ ghost use Rattle.thumb_instr.specs.declared.instructions.Instr.TheVariants as in
 ghost use Rattle.thumb_instr.specs.Operands.{is_place};
 ghost use Rattle.thumb_table.specs.Parts.{CodeBytes};
 ghost use Rattle.thumb_table.specs.Values.{extended};
-ghost use Rattle.thumb_table.specs.Effects.{address_of as address_of_place, base_write, size_of as size, lies_in};
+ghost use Rattle.thumb_table.specs.Effects.{access_address, base_write, size_of as size, lies_in};
 ghost use Rattle.thumb_table.specs.CoreStates.{alone};
 ghost use Rattle.thumb_table.specs.Views.{base_list, with_cells, is_load as is_load_of, loaded_word, stored_cells, Turns, Fails};
 
@@ -16,8 +16,8 @@ use mark_word::Word;
 use thumb_instr::{Access, AccessOp, Place};
 
 /// The address of an access.
-pub(crate) fn address_of(i: &Access, s: &Core) -> u32
-    ensures { result ≡ address_of_place i.now.n i.now.place (alone s.now) }
+pub(crate) fn access_address(i: &Access, s: &Core) -> u32
+    ensures { result ≡ access_address i.now.n i.now.place (alone s.now) }
 {
     let n = s.word(i.n).bits();
     match i.place {
@@ -127,7 +127,7 @@ pub(crate) fn apply_access(
     ensures fault { IfErr result (λ kind. ((code : CodeBytes) → Fails code (instr.Access i.now) next s.old m.old kind) × (s.new ≡ s.old) × (m.new ≡ m.old)) }
 {
     let op = i.op;
-    let address = address_of(i, s);
+    let address = access_address(i, s);
     if !m.holds(address, size_of(op)) {
         return Err(FaultKind::BadAddress);
     }

@@ -3,7 +3,7 @@
 ghost use Rattle.std.specs.Prelude.{◌≡◌, OnOk, IfErr};
 ghost use Rattle.thumb_instr.specs.declared.instructions.Instr.TheVariants as instr;
 ghost use Rattle.thumb_table.specs.Effects.{wide_value};
-ghost use Rattle.thumb_table.specs.Views.{Makes, Halts};
+ghost use Rattle.thumb_table.specs.Views.{ChangesTo, Halts};
 
 use crate::addresses::moved;
 use crate::cores::fall;
@@ -16,7 +16,7 @@ use thumb_instr::{Alu, Move, ShiftBy, Test, Wide, WideOp};
 
 /// AND, BIC, ORR, ORN, EOR, ADD, ADC, SBC, SUB and RSB.
 pub(crate) fn apply_alu(i: &Alu, next: u32, s: &mut Core) -> Result<(), FaultKind>
-    ensures done { OnOk result (Makes (instr.Alu i.now) next s.old s.new) }
+    ensures done { OnOk result (ChangesTo (instr.Alu i.now) next s.old s.new) }
     ensures fault { IfErr result (λ kind. Halts (instr.Alu i.now) next s.old kind × (s.new ≡ s.old)) }
 {
     let x = operand_value(i.x, s);
@@ -26,7 +26,7 @@ pub(crate) fn apply_alu(i: &Alu, next: u32, s: &mut Core) -> Result<(), FaultKin
 
 /// MOV and MVN.
 pub(crate) fn apply_move(i: &Move, next: u32, s: &mut Core) -> Result<(), FaultKind>
-    ensures done { OnOk result (Makes (instr.Move i.now) next s.old s.new) }
+    ensures done { OnOk result (ChangesTo (instr.Move i.now) next s.old s.new) }
     ensures fault { IfErr result (λ kind. Halts (instr.Move i.now) next s.old kind × (s.new ≡ s.old)) }
 {
     let x = operand_value(i.x, s);
@@ -37,7 +37,7 @@ pub(crate) fn apply_move(i: &Move, next: u32, s: &mut Core) -> Result<(), FaultK
 
 /// TST, TEQ, CMN and CMP.
 pub(crate) fn apply_test(i: &Test, next: u32, s: &mut Core) -> Result<(), FaultKind>
-    ensures done { OnOk result (Makes (instr.Test i.now) next s.old s.new) }
+    ensures done { OnOk result (ChangesTo (instr.Test i.now) next s.old s.new) }
     ensures fault { IfErr result (λ kind. Halts (instr.Test i.now) next s.old kind × (s.new ≡ s.old)) }
 {
     let x = operand_value(i.x, s);
@@ -49,7 +49,7 @@ pub(crate) fn apply_test(i: &Test, next: u32, s: &mut Core) -> Result<(), FaultK
 
 /// LSL, LSR, ASR and ROR by a register.
 pub(crate) fn apply_shift_by(i: &ShiftBy, next: u32, s: &mut Core) -> Result<(), FaultKind>
-    ensures done { OnOk result (Makes (instr.ShiftBy i.now) next s.old s.new) }
+    ensures done { OnOk result (ChangesTo (instr.ShiftBy i.now) next s.old s.new) }
     ensures fault { IfErr result (λ kind. Halts (instr.ShiftBy i.now) next s.old kind × (s.new ≡ s.old)) }
 {
     let amount = (s.word(i.m).bits() % 256) as u8;
@@ -70,7 +70,7 @@ fn wide_value(op: WideOp, n: u32, imm: u16) -> u32
 
 /// ADDW and SUBW.
 pub(crate) fn apply_wide(i: &Wide, next: u32, s: &mut Core) -> Result<(), FaultKind>
-    ensures done { OnOk result (Makes (instr.Wide i.now) next s.old s.new) }
+    ensures done { OnOk result (ChangesTo (instr.Wide i.now) next s.old s.new) }
     ensures fault { IfErr result (λ kind. Halts (instr.Wide i.now) next s.old kind × (s.new ≡ s.old)) }
 {
     let n = s.word(i.n).bits();

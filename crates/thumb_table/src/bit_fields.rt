@@ -4,7 +4,7 @@ ghost use Rattle.std.specs.Prelude.{◌≡◌, OnOk, IfErr, Option};
 ghost use Rattle.thumb_instr.specs.declared.instructions.Instr.TheVariants as instr;
 ghost use Rattle.thumb_table.specs.Effects.{field_value, source};
 ghost use Rattle.thumb_table.specs.CoreStates.{alone};
-ghost use Rattle.thumb_table.specs.Views.{Makes, Halts};
+ghost use Rattle.thumb_table.specs.Views.{ChangesTo, Halts};
 
 use crate::bit_values::{extended, field_of, lowest, rotated, unary, with_field};
 use crate::flags::write_word;
@@ -40,7 +40,7 @@ fn field_value(i: &Field, s: &Core) -> u32
 
 /// SBFX, UBFX, BFI and BFC.
 pub(crate) fn apply_field(i: &Field, next: u32, s: &mut Core) -> Result<(), FaultKind>
-    ensures done { OnOk result (Makes (instr.Field i.now) next s.old s.new) }
+    ensures done { OnOk result (ChangesTo (instr.Field i.now) next s.old s.new) }
     ensures fault { IfErr result (λ kind. Halts (instr.Field i.now) next s.old kind × (s.new ≡ s.old)) }
 {
     let value = field_value(i, s);
@@ -49,7 +49,7 @@ pub(crate) fn apply_field(i: &Field, next: u32, s: &mut Core) -> Result<(), Faul
 
 /// SXTH, SXTB, UXTH, UXTB, REV, REV16, REVSH, RBIT and CLZ.
 pub(crate) fn apply_unary(i: &Unary, next: u32, s: &mut Core) -> Result<(), FaultKind>
-    ensures done { OnOk result (Makes (instr.Unary i.now) next s.old s.new) }
+    ensures done { OnOk result (ChangesTo (instr.Unary i.now) next s.old s.new) }
     ensures fault { IfErr result (λ kind. Halts (instr.Unary i.now) next s.old kind × (s.new ≡ s.old)) }
 {
     let turned = rotated(s.word(i.m).bits(), i.turn);

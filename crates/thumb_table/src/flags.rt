@@ -6,7 +6,7 @@ ghost use Rattle.thumb_instr.specs.Blocks.{it_after as it_after_of};
 ghost use Rattle.thumb_table.specs.States.{upright, or_old};
 ghost use Rattle.thumb_table.specs.Effects.{writing, with_flags, with_sign, two_words};
 ghost use Rattle.thumb_table.specs.Results.{flagged, signed_by};
-ghost use Rattle.thumb_table.specs.Views.{Leads, with_regs};
+ghost use Rattle.thumb_table.specs.Views.{SettlesTo, with_regs};
 
 use crate::cores::{fall, is_askew};
 use crate::values::{Computed, is_negative};
@@ -56,7 +56,7 @@ fn put(d: Reg, w: Word, next: u32, s: &mut Core)
 
 /// Writes a word, unless sp would be askew.
 pub(crate) fn write_word(d: Reg, w: Word, next: u32, s: &mut Core) -> Result<(), FaultKind>
-    ensures done { OnOk result (Leads (upright (writing ((d, w) ∷ []))) next s.old s.new) }
+    ensures done { OnOk result (SettlesTo (upright (writing ((d, w) ∷ []))) next s.old s.new) }
     ensures fault { IfErr result (λ kind. (upright (writing ((d, w) ∷ [])) ≡ Err kind) × (s.new ≡ s.old)) }
 {
     if is_askew(d, w) {
@@ -75,7 +75,7 @@ pub(crate) fn write_flagged(
     next: u32,
     s: &mut Core,
 ) -> Result<(), FaultKind>
-    ensures done { OnOk result (Leads (upright (with_flags sets r.now (writing ((d, w) ∷ [])))) next s.old s.new) }
+    ensures done { OnOk result (SettlesTo (upright (with_flags sets r.now (writing ((d, w) ∷ [])))) next s.old s.new) }
     ensures fault { IfErr result (λ kind. (upright (with_flags sets r.now (writing ((d, w) ∷ []))) ≡ Err kind) × (s.new ≡ s.old)) }
 {
     if is_askew(d, w) {
@@ -94,7 +94,7 @@ pub(crate) fn write_signed(
     next: u32,
     s: &mut Core,
 ) -> Result<(), FaultKind>
-    ensures done { OnOk result (Leads (upright (with_sign sets bits (writing ((d, plain bits) ∷ [])))) next s.old s.new) }
+    ensures done { OnOk result (SettlesTo (upright (with_sign sets bits (writing ((d, plain bits) ∷ [])))) next s.old s.new) }
     ensures fault { IfErr result (λ kind. (upright (with_sign sets bits (writing ((d, plain bits) ∷ []))) ≡ Err kind) × (s.new ≡ s.old)) }
 {
     let w = Word::plain(bits);
@@ -114,7 +114,7 @@ pub(crate) fn write_two(
     next: u32,
     s: &mut Core,
 ) -> Result<(), FaultKind>
-    ensures done { OnOk result (Leads (upright (two_words lo hi product)) next s.old s.new) }
+    ensures done { OnOk result (SettlesTo (upright (two_words lo hi product)) next s.old s.new) }
     ensures fault { IfErr result (λ kind. (upright (two_words lo hi product) ≡ Err kind) × (s.new ≡ s.old)) }
 {
     let low = Word::plain((product % 0x1_0000_0000) as u32);

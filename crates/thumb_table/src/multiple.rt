@@ -4,7 +4,7 @@ ghost use Rattle.std.specs.Prelude.{◌≡◌, ◌+◌, ◌*◌, ◌<◌, ◌≤
 ghost use Rattle.thumb_instr.specs.declared.instructions.Instr.TheVariants as instr;
 ghost use Rattle.thumb_table.specs.Parts.{CodeBytes};
 ghost use Rattle.thumb_table.specs.States.{write_all};
-ghost use Rattle.thumb_table.specs.Effects.{value, word_at, registers, loaded, stored, bytes_of as bytes_of_list, lowest as lowest_of, lies_in, base_moved};
+ghost use Rattle.thumb_table.specs.Effects.{value, word_at, registers, loaded, stored, transfer_size, lowest as lowest_of, lies_in, base_moved};
 ghost use Rattle.thumb_table.specs.CoreStates.{alone, core_of};
 ghost use Rattle.thumb_table.specs.Views.{base_list, with_cells, list_change, popped as popped_of, list_outcome, Ends, Turns, Fails};
 
@@ -39,8 +39,8 @@ fn count(list: RegSet) -> u32
 }
 
 /// The bytes that a list and pc take.
-pub(crate) fn bytes_of(i: &Multi) -> u32
-    ensures value { result ≡ bytes_of_list i.now.list.0 i.now.pc }
+pub(crate) fn transfer_size(i: &Multi) -> u32
+    ensures value { result ≡ transfer_size i.now.list.0 i.now.pc }
     ensures range { result ≤ 64 }
 {
     4 * (count(i.list) + u32::from(i.pc))
@@ -125,7 +125,7 @@ fn onwards(pc: bool, bits: u32, next: u32) -> u32
 
 /// Writes the base, and moves the words of a list.
 fn move_list(i: &Multi, address: u32, bytes: u32, s: &mut Core, m: &mut Memory)
-    requires bytes { bytes ≡ bytes_of_list i.now.list.0 i.now.pc }
+    requires bytes { bytes ≡ transfer_size i.now.list.0 i.now.pc }
     requires lies { lies_in m.old address bytes ≡ true }
     requires ends { m.old.base + length m.old.cells < 2 ^ 32 }
     ensures registers { s.new ≡ record s.old { r = write_all (list_change i.now address bytes (core_of s.old m.old)).regs s.old.r } }
@@ -150,7 +150,7 @@ fn transfer(
     s: &mut Core,
     m: &mut Memory,
 ) -> Result<(), FaultKind>
-    requires bytes { bytes ≡ bytes_of_list i.now.list.0 i.now.pc }
+    requires bytes { bytes ≡ transfer_size i.now.list.0 i.now.pc }
     requires lies { lies_in m.old address bytes ≡ true }
     requires ends { m.old.base + length m.old.cells < 2 ^ 32 }
     ensures done { OnOk result (Ends (list_outcome i.now address bytes (core_of s.old m.old)) next s.old m.old s.new m.new) }
@@ -179,7 +179,7 @@ pub(crate) fn apply_multi(
     ensures done { OnOk result ((code : CodeBytes) → Turns code (instr.Multi i.now) next s.old m.old s.new m.new) }
     ensures fault { IfErr result (λ kind. ((code : CodeBytes) → Fails code (instr.Multi i.now) next s.old m.old kind) × (s.new ≡ s.old) × (m.new ≡ m.old)) }
 {
-    let bytes = bytes_of(i);
+    let bytes = transfer_size(i);
     let address = lowest(i, bytes, s);
     match check_words(m, address, bytes) {
         Ok(()) => transfer(i, address, bytes, next, s, m),

@@ -4,7 +4,7 @@ ghost use Rattle.std.specs.Prelude.{◌≡◌, ◌+◌, ◌<◌, ◌^◌, true, 
 ghost use Rattle.thumb_instr.specs.declared.instructions.Instr.TheVariants as instr;
 ghost use Rattle.thumb_table.specs.Parts.{CodeBytes};
 ghost use Rattle.thumb_table.specs.States.{Outcome};
-ghost use Rattle.thumb_table.specs.Effects.{address_of as address_of_place, base_write, pair_place, lies_in, on_words};
+ghost use Rattle.thumb_table.specs.Effects.{access_address, base_write, pair_place, lies_in, on_words};
 ghost use Rattle.thumb_table.specs.CoreStates.{alone, core_of};
 ghost use Rattle.thumb_table.specs.Views.{base_list, pair_outcome, Ends, Turns, Fails};
 
@@ -29,8 +29,8 @@ pub(crate) fn check_words(m: &Memory, address: u32, bytes: u32) -> Result<(), Fa
 }
 
 /// The address of a pair.
-pub(crate) fn address_of(i: &Pair, s: &Core) -> u32
-    ensures { result ≡ address_of_place i.now.n (pair_place i.now.index i.now.up i.now.imm) (alone s.now) }
+pub(crate) fn access_address(i: &Pair, s: &Core) -> u32
+    ensures { result ≡ access_address i.now.n (pair_place i.now.index i.now.up i.now.imm) (alone s.now) }
 {
     let n = s.word(i.n).bits();
     match i.index {
@@ -90,7 +90,7 @@ pub(crate) fn apply_pair(i: &Pair, next: u32, s: &mut Core, m: &mut Memory) -> R
     ensures done { OnOk result ((code : CodeBytes) → Turns code (instr.Pair i.now) next s.old m.old s.new m.new) }
     ensures fault { IfErr result (λ kind. ((code : CodeBytes) → Fails code (instr.Pair i.now) next s.old m.old kind) × (s.new ≡ s.old) × (m.new ≡ m.old)) }
 {
-    let address = address_of(i, s);
+    let address = access_address(i, s);
     match check_words(m, address, 8) {
         Ok(()) => transfer(i, address, next, s, m),
         Err(kind) => Err(kind),

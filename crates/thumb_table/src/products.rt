@@ -3,7 +3,7 @@
 ghost use Rattle.std.specs.Prelude.{◌≡◌, ◌+◌, ◌*◌, ◌^◌, OnOk, IfErr};
 ghost use Rattle.thumb_instr.specs.declared.instructions.Instr.TheVariants as instr;
 ghost use Rattle.thumb_table.specs.Values.{wrapped};
-ghost use Rattle.thumb_table.specs.Views.{Makes, Halts};
+ghost use Rattle.thumb_table.specs.Views.{ChangesTo, Halts};
 
 use crate::addresses::moved;
 use crate::flags::{write_signed, write_two, write_word};
@@ -14,7 +14,7 @@ use thumb_instr::{Div, LongMul, Mul, MulAcc};
 
 /// MUL.
 pub(crate) fn apply_mul(i: &Mul, next: u32, s: &mut Core) -> Result<(), FaultKind>
-    ensures done { OnOk result (Makes (instr.Mul i.now) next s.old s.new) }
+    ensures done { OnOk result (ChangesTo (instr.Mul i.now) next s.old s.new) }
     ensures fault { IfErr result (λ kind. Halts (instr.Mul i.now) next s.old kind × (s.new ≡ s.old)) }
 {
     let n = s.word(i.n).bits();
@@ -25,7 +25,7 @@ pub(crate) fn apply_mul(i: &Mul, next: u32, s: &mut Core) -> Result<(), FaultKin
 
 /// MLA and MLS.
 pub(crate) fn apply_mul_acc(i: &MulAcc, next: u32, s: &mut Core) -> Result<(), FaultKind>
-    ensures done { OnOk result (Makes (instr.MulAcc i.now) next s.old s.new) }
+    ensures done { OnOk result (ChangesTo (instr.MulAcc i.now) next s.old s.new) }
     ensures fault { IfErr result (λ kind. Halts (instr.MulAcc i.now) next s.old kind × (s.new ≡ s.old)) }
 {
     let n = s.word(i.n).bits();
@@ -45,7 +45,7 @@ fn joined(hi: u32, lo: u32) -> u64
 
 /// SMULL, UMULL, SMLAL and UMLAL.
 pub(crate) fn apply_long_mul(i: &LongMul, next: u32, s: &mut Core) -> Result<(), FaultKind>
-    ensures done { OnOk result (Makes (instr.LongMul i.now) next s.old s.new) }
+    ensures done { OnOk result (ChangesTo (instr.LongMul i.now) next s.old s.new) }
     ensures fault { IfErr result (λ kind. Halts (instr.LongMul i.now) next s.old kind × (s.new ≡ s.old)) }
 {
     let n = s.word(i.n).bits();
@@ -59,7 +59,7 @@ pub(crate) fn apply_long_mul(i: &LongMul, next: u32, s: &mut Core) -> Result<(),
 
 /// SDIV and UDIV.
 pub(crate) fn apply_div(i: &Div, next: u32, s: &mut Core) -> Result<(), FaultKind>
-    ensures done { OnOk result (Makes (instr.Div i.now) next s.old s.new) }
+    ensures done { OnOk result (ChangesTo (instr.Div i.now) next s.old s.new) }
     ensures fault { IfErr result (λ kind. Halts (instr.Div i.now) next s.old kind × (s.new ≡ s.old)) }
 {
     let n = s.word(i.n).bits();

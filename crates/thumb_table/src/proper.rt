@@ -6,14 +6,14 @@ ghost use Rattle.std.specs.List.Sorted.{IsStrictlyIncreasing};
 ghost use Rattle.thumb_instr.specs.declared.instructions.Instr.TheVariants as instr;
 ghost use Rattle.thumb_table.specs.Parts.{Memory as Contents};
 ghost use Rattle.thumb_table.specs.States.{read};
-ghost use Rattle.thumb_table.specs.Effects.{address_of, cell_at, word_at, registers};
+ghost use Rattle.thumb_table.specs.Effects.{access_address, cell_at, word_at, registers};
 ghost use Rattle.thumb_table.specs.Ordinary.{IsLow, in_operand, AreBare, AreWhole, OrdinaryAccess, OrdinaryTop, OrdinaryReturn, OrdinaryList, IsProper, IsOrdinaryUse};
 ghost use Rattle.thumb_table.specs.CoreStates.{alone, core_of, site_of};
 ghost use Rattle.thumb_table.specs.Views.{popped as popped_of};
 
 use crate::jumps::{is_ordinary_jump, is_ordinary_return};
 use crate::marks::{completed, mark_at};
-use crate::multiple::{bytes_of, joined_behind, lowest, numbered};
+use crate::multiple::{joined_behind, lowest, numbered, transfer_size};
 use crate::ordinary::{is_low, is_plain, uses_numbers};
 use crate::{CodeBytes, Core, Memory, accesses, pairs};
 use mark_word::Mark;
@@ -114,7 +114,7 @@ fn is_pair_proper(i: &Pair, code: &CodeBytes, s: &Core, m: &Memory) -> bool
     ensures { (width : ℕ) → IsTrue result ↔ IsProper (instr.Pair i.now) (site_of code.now s.now width) (core_of s.now m.now) }
 {
     let _ = code;
-    let address = pairs::address_of(i, s);
+    let address = pairs::access_address(i, s);
     !i.load || is_pair_whole(i.t, i.u, address, m)
 }
 
@@ -134,7 +134,7 @@ fn is_multi_proper(i: &Multi, code: &CodeBytes, s: &Core, m: &Memory) -> bool
     requires ends { code.now.base + length code.now.bytes < 2 ^ 32 }
     ensures { (width : ℕ) → IsTrue result ↔ IsProper (instr.Multi i.now) (site_of code.now s.now width) (core_of s.now m.now) }
 {
-    let address = lowest(i, bytes_of(i), s);
+    let address = lowest(i, transfer_size(i), s);
     if !i.load {
         return true;
     }
@@ -153,9 +153,9 @@ fn is_move_proper(i: &Move, s: &Core) -> bool
 
 /// Whether an access is used in an ordinary way.
 fn is_access_proper(i: &Access, s: &Core, m: &Memory) -> bool
-    ensures { IsTrue result ↔ OrdinaryAccess i.now.op (address_of i.now.n i.now.place (alone s.now)) (core_of s.now m.now) }
+    ensures { IsTrue result ↔ OrdinaryAccess i.now.op (access_address i.now.n i.now.place (alone s.now)) (core_of s.now m.now) }
 {
-    reads_whole(i.op, accesses::address_of(i, s), m)
+    reads_whole(i.op, accesses::access_address(i, s), m)
 }
 
 fn is_no_half(n: Reg, s: &Core) -> bool

@@ -6,7 +6,7 @@ ghost use Rattle.mark_word.specs.Words.{Cell};
 ghost use Rattle.thumb_table.specs.Parts.{Memory};
 ghost use Rattle.thumb_table.specs.States.{is_askew as is_askew_of, unchanged, upright, write_all};
 ghost use Rattle.thumb_table.specs.Effects.{writing};
-ghost use Rattle.thumb_table.specs.Views.{base_list, Leads, StoresBy};
+ghost use Rattle.thumb_table.specs.Views.{base_list, SettlesTo, StoresBy};
 
 use crate::cores::{fall, is_askew};
 use crate::{Core, FaultKind};
@@ -42,7 +42,7 @@ pub(crate) fn put_load(
     next: u32,
     s: &mut Core,
 ) -> Result<(), FaultKind>
-    ensures done { OnOk result (Leads (upright (writing (base_list n base ++ ((t, w) ∷ [])))) next s.old s.new) }
+    ensures done { OnOk result (SettlesTo (upright (writing (base_list n base ++ ((t, w) ∷ [])))) next s.old s.new) }
     ensures fault { IfErr result (λ kind. (upright (writing (base_list n base ++ ((t, w) ∷ []))) ≡ Err kind) × (s.new ≡ s.old)) }
 {
     if is_base_askew(n, base) || is_askew(t, w) {
@@ -63,7 +63,7 @@ pub(crate) fn put_pair(
     next: u32,
     s: &mut Core,
 ) -> Result<(), FaultKind>
-    ensures done { OnOk result (Leads (upright (writing (base_list n base ++ (t ∷ u ∷ [])))) next s.old s.new) }
+    ensures done { OnOk result (SettlesTo (upright (writing (base_list n base ++ (t ∷ u ∷ [])))) next s.old s.new) }
     ensures fault { IfErr result (λ kind. (upright (writing (base_list n base ++ (t ∷ u ∷ []))) ≡ Err kind) × (s.new ≡ s.old)) }
 {
     if is_base_askew(n, base) || is_askew(t.0, t.1) || is_askew(u.0, u.1) {

@@ -7,7 +7,7 @@ use Rattle.thumb_instr.specs.Fields.{AluFields, MoveFields, TestFields, ShiftByF
 use Rattle.thumb_instr.specs.declared.instructions.Instr.{Instr}
 use Rattle.thumb_instr.specs.declared.instructions.Instr.TheVariants.{Alu, Move, Test, ShiftBy, Wide, Half, Field, Unary, Mul, MulAcc, LongMul, Div, Access, Pair, Multi, Literal, Adr, Branch, ZeroBranch, Call, Jump, CallReg, It, Nothing, Trap}
 use Rattle.thumb_text.specs.Names.{alu_name, move_name, test_name, shift_name, wide_name, half_name, field_name, unary_name, mul_acc_name, long_mul_name, div_name, access_name, pair_name, multi_name, cond_name, branch_name, zero_branch_name, nothing_name, flag_mark, register}
-use Rattle.thumb_text.specs.Pieces.{words, hex_word, number, operand, memory, pair_place, transferred, base, address, branched, beside}
+use Rattle.thumb_text.specs.Pieces.{words, hex_word, numeral, operand, memory, pair_place, transferred, base, address, branched, beside}
 
 abbrev pub alu_text : AluFields → List ℕ
 alu_text i = words (alu_name i.op ++ flag_mark i.s) (register i.d ∷ register i.n ∷ operand i.x)
@@ -22,13 +22,13 @@ abbrev pub shift_by_text : ShiftByFields → List ℕ
 shift_by_text i = words (shift_name i.kind ++ flag_mark i.s) (register i.d ∷ register i.n ∷ register i.m ∷ [])
 
 abbrev pub wide_text : WideFields → List ℕ
-wide_text i = words (wide_name i.op) (register i.d ∷ register i.n ∷ number i.imm ∷ [])
+wide_text i = words (wide_name i.op) (register i.d ∷ register i.n ∷ numeral i.imm ∷ [])
 
 abbrev pub half_text : HalfFields → List ℕ
-half_text i = words (half_name i.top) (register i.d ∷ number i.imm ∷ [])
+half_text i = words (half_name i.top) (register i.d ∷ numeral i.imm ∷ [])
 
 abbrev pub field_text : FieldFields → List ℕ
-field_text i = words (field_name i.op) (register i.d ∷ source i.n ++ number i.lsb ∷ number i.width ∷ [])
+field_text i = words (field_name i.op) (register i.d ∷ source i.n ++ numeral i.lsb ∷ numeral i.width ∷ [])
   where
     source : Option ℕ → List (List ℕ)
     source (Some n) = register n ∷ []
@@ -80,18 +80,18 @@ abbrev pub call_reg_text : CallRegFields → List ℕ
 call_reg_text i = words (codes "blx") (register i.m ∷ [])
 
 abbrev pub it_text : ItFields → List ℕ
-it_text i = words (codes "it") (cond_name i.first ∷ number i.mask ∷ [])
+it_text i = words (codes "it") (cond_name i.first ∷ numeral i.mask ∷ [])
 
 -- the option of a barrier; NOP has none
 abbrev pub option_of : NothingOp → ℕ → List (List ℕ)
 option_of Nop option = []
-option_of op option = number option ∷ []
+option_of op option = numeral option ∷ []
 
 abbrev pub nothing_text : NothingFields → List ℕ
 nothing_text i = words (nothing_name i.op) (option_of i.op i.option)
 
 abbrev pub trap_text : TrapFields → List ℕ
-trap_text i = words (codes "udf") (number i.imm ∷ [])
+trap_text i = words (codes "udf") (numeral i.imm ∷ [])
 
 -- an instruction at an address, by its name and operands
 abbrev pub text_of : Instr → ℕ → List ℕ

@@ -34,8 +34,8 @@ words name (x ∷ xs) = name ++ codes " " ++ separated (codes ", ") (x ∷ xs)
 unfoldable pub hex_word : ℕ → List ℕ
 hex_word n = map (λ k. digit_glyph false (n / 16 ^ k % 16)) (7 ∷ 6 ∷ 5 ∷ 4 ∷ 3 ∷ 2 ∷ 1 ∷ 0 ∷ [])
 
-abbrev pub number : ℕ → List ℕ
-number n = codes "#" ++ decimal n
+abbrev pub numeral : ℕ → List ℕ
+numeral n = codes "#" ++ decimal n
 
 -- upwards or downwards, also where it is 0
 abbrev pub directed : Bool → ℕ → List ℕ
@@ -57,7 +57,7 @@ shifting Lsl n = if n == 0 then [] else (codes "lsl #" ++ decimal n) ∷ []
 shifting kind n = (shift_name kind ++ codes " #" ++ decimal n) ∷ []
 
 abbrev pub operand : Operand → List (List ℕ)
-operand (Imm i) = number (constant i) ∷ []
+operand (Imm i) = numeral (constant i) ∷ []
 operand (Reg m kind amount) = register m ∷ shifting kind amount
 
 abbrev pub memory : ℕ → Place → List ℕ

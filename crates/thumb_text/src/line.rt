@@ -3,7 +3,7 @@
 ghost use Rattle.std.specs.Prelude.{◌≡◌, ◌+◌, ◌<◌, ◌≤◌, false, [], ◌∷◌, ◌++◌, length};
 ghost use Rattle.std.specs.Fmt.{decimal, digit_glyph};
 ghost use Rattle.thumb_text.specs.Names.{register, flag_mark};
-ghost use Rattle.thumb_text.specs.Pieces.{hex_word, number, directed, address};
+ghost use Rattle.thumb_text.specs.Pieces.{hex_word, numeral, directed, address};
 
 use std::marker::Model;
 use thumb_instr::Reg;

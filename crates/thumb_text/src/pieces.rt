@@ -3,7 +3,7 @@
 ghost use Rattle.std.specs.Prelude.{◌≡◌, ◌+◌, ◌<◌, ◌≤◌, ◌++◌, codes, length};
 ghost use Rattle.std.specs.Fmt.{decimal};
 ghost use Rattle.thumb_text.specs.Names.{register, flag_mark};
-ghost use Rattle.thumb_text.specs.Pieces.{hex_word, number, directed, address, base};
+ghost use Rattle.thumb_text.specs.Pieces.{hex_word, numeral, directed, address, base};
 
 use crate::Line;
 use thumb_instr::Reg;
@@ -105,7 +105,7 @@ impl Line {
     /// Appends a number.
     pub(crate) fn push_number(&mut self, n: u32)
         requires { length self.old ≤ 60 }
-        ensures text { self.new ≡ self.old ++ number n }
+        ensures text { self.new ≡ self.old ++ numeral n }
         ensures short { length self.new ≤ length self.old + 11 }
     {
         self.push(b'#');

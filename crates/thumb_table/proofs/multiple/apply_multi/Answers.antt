@@ -10,24 +10,24 @@ returns-in-Ok-clause-done c =
     let i = c.args.i.now in
     let s = c.args.s.now in
     let m = c.args.m.now in
-    let bytes = c.bytes_of-bytes.result in
+    let bytes = c.transfer_size-bytes.result in
     let a = c.lowest-address.result in
-    on_ok_weaker c.transfer.result (λ ends code width e. rw (multi_change i (site_of code s width) s m bytes a c.bytes_of-bytes.ensures.value c.lowest-address.ensures, c.in-Ok.ensures.done (list_outcome i a bytes (core_of s m))) ends) c.transfer.ensures.done
+    on_ok_weaker c.transfer.result (λ ends code width e. rw (multi_change i (site_of code s width) s m bytes a c.transfer_size-bytes.ensures.value c.lowest-address.ensures, c.in-Ok.ensures.done (list_outcome i a bytes (core_of s m))) ends) c.transfer.ensures.done
 
 pub returns-in-Ok-clause-fault : goal.returns-in-Ok-clause-fault
 returns-in-Ok-clause-fault c =
     let i = c.args.i.now in
     let s = c.args.s.now in
     let m = c.args.m.now in
-    let bytes = c.bytes_of-bytes.result in
+    let bytes = c.transfer_size-bytes.result in
     let a = c.lowest-address.result in
-    IfErr-weaker c.transfer.result _ _ (λ kind fails. (λ code width e. rw (multi_change i (site_of code s width) s m bytes a c.bytes_of-bytes.ensures.value c.lowest-address.ensures, c.in-Ok.ensures.done (list_outcome i a bytes (core_of s m)), fails.0) refl, fails.1, fails.2)) c.transfer.ensures.fault
+    IfErr-weaker c.transfer.result _ _ (λ kind fails. (λ code width e. rw (multi_change i (site_of code s width) s m bytes a c.transfer_size-bytes.ensures.value c.lowest-address.ensures, c.in-Ok.ensures.done (list_outcome i a bytes (core_of s m)), fails.0) refl, fails.1, fails.2)) c.transfer.ensures.fault
 
 pub returns-in-Err-clause-fault : goal.returns-in-Err-clause-fault
 returns-in-Err-clause-fault c =
     let i = c.args.i.now in
     let s = c.args.s.now in
     let m = c.args.m.now in
-    let bytes = c.bytes_of-bytes.result in
+    let bytes = c.transfer_size-bytes.result in
     let a = c.lowest-address.result in
-    (λ code width e. rw (multi_change i (site_of code s width) s m bytes a c.bytes_of-bytes.ensures.value c.lowest-address.ensures, c.in-Err.ensures.fault (list_outcome i a bytes (core_of s m))) refl, refl, refl)
+    (λ code width e. rw (multi_change i (site_of code s width) s m bytes a c.transfer_size-bytes.ensures.value c.lowest-address.ensures, c.in-Err.ensures.fault (list_outcome i a bytes (core_of s m))) refl, refl, refl)

@@ -1,20 +1,16 @@
-//! Where sp may stand in data processing, and which operands read C.
+//! Where sp may stand in data processing, and which operands read C (ARMv7-M ARM, A7.7).
 
 ghost use Rattle.std.specs.Prelude.{◌≡◌, ◌==◌, ◌&&◌, ◌||◌, not, nat_lt, true, false};
 ghost use Rattle.thumb_instr.specs.Sets.{sums_with_carry, takes_carry_in};
 ghost use Rattle.thumb_instr.specs.DataRows.{names, is_rrx, is_add_or_sub, moves_sp, has_odd_sp, is_copy, takes_sp};
 
+use crate::registers::is_sp;
 use mark_word::Shift;
 use thumb_instr::{AluOp, MoveOp, Operand, Reg, TestOp};
 
-pub(crate) fn is_sp(r: Reg) -> bool
-    ensures { result ≡ (r == 13) }
-{
-    r.number() == 13
-}
-
+/// Whether an operand is made of sp.
 #[tactic(auto, unfolding(thumb_instr::specs::DataRows::names))]
-pub(crate) fn names_sp(x: &Operand) -> bool
+pub fn names_sp(x: &Operand) -> bool
     ensures { result ≡ names 13 x.now }
 {
     match x {
@@ -23,9 +19,9 @@ pub(crate) fn names_sp(x: &Operand) -> bool
     }
 }
 
-/// RRX, which reads C.
+/// Whether an operand is turned by RRX, which reads C.
 #[tactic(auto, unfolding(thumb_instr::specs::DataRows::is_rrx))]
-pub(crate) fn is_rrx(x: &Operand) -> bool
+pub fn is_rrx(x: &Operand) -> bool
     ensures { result ≡ is_rrx x.now }
 {
     match x {
@@ -37,7 +33,7 @@ pub(crate) fn is_rrx(x: &Operand) -> bool
     }
 }
 
-/// What may be added to sp in place.
+/// Whether an operand may be added to sp in place.
 #[tactic(auto, unfolding(thumb_instr::specs::DataRows::moves_sp))]
 fn moves_sp(x: &Operand) -> bool
     ensures { result ≡ moves_sp x.now }
@@ -60,7 +56,8 @@ fn is_add_or_sub(op: AluOp) -> bool
     }
 }
 
-pub(crate) fn sums_with_carry(op: AluOp) -> bool
+/// Whether an operation adds C: ADC and SBC.
+pub fn sums_with_carry(op: AluOp) -> bool
     ensures { result ≡ sums_with_carry op }
 {
     match op {
@@ -69,7 +66,8 @@ pub(crate) fn sums_with_carry(op: AluOp) -> bool
     }
 }
 
-pub(crate) fn takes_sp(op: TestOp) -> bool
+/// Whether a comparison may have sp as its first operand: CMN and CMP.
+pub fn takes_sp(op: TestOp) -> bool
     ensures { result ≡ takes_sp op }
 {
     match op {
@@ -80,7 +78,7 @@ pub(crate) fn takes_sp(op: TestOp) -> bool
 
 /// Whether sp stands where it may not.
 #[tactic(auto, unfolding(thumb_instr::specs::DataRows::has_odd_sp))]
-pub(crate) fn has_odd_sp(op: AluOp, d: Reg, n: Reg, x: &Operand) -> bool
+pub fn has_odd_sp(op: AluOp, d: Reg, n: Reg, x: &Operand) -> bool
     ensures { result ≡ has_odd_sp op d n x.now }
 {
     if names_sp(x) {
@@ -93,9 +91,9 @@ pub(crate) fn has_odd_sp(op: AluOp, d: Reg, n: Reg, x: &Operand) -> bool
     }
 }
 
-/// A copy of a register as it is, which may have sp on one side.
+/// Whether a register is moved as it is, and may be sp on one side.
 #[tactic(auto, unfolding(thumb_instr::specs::DataRows::is_copy))]
-pub(crate) fn is_copy(op: MoveOp, s: bool, x: &Operand) -> bool
+pub fn is_copy(op: MoveOp, s: bool, x: &Operand) -> bool
     ensures { result ≡ is_copy op s x.now }
 {
     match op {
