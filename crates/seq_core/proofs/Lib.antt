@@ -34,6 +34,7 @@ pub mod Sums
 pub mod ClassesApart
 pub mod ClassesDecided
 pub mod ClassesCover
+pub mod ClassesTell
 pub mod NeedsFew
 pub mod RowsApart
 pub mod HalvesApart

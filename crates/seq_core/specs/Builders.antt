@@ -1,5 +1,5 @@
 -- What a builder of sequences is given, and what its sequence does.
-use Rattle.std.specs.Prelude.{◌≡◌, ◌≤◌, ℕ, ◌+◌, ◌*◌, ◌&&◌, ◌||◌, Bool, false, if◌then◌else◌, List, [], ◌∷◌, ◌++◌, length, Ok, Err, ⊤}
+use Rattle.std.specs.Prelude.{◌≡◌, ◌≢◌, ◌≤◌, ℕ, ◌+◌, ◌*◌, ◌&&◌, ◌||◌, Bool, false, if◌then◌else◌, List, [], ◌∷◌, ◌++◌, length, Ok, Err, ⊤}
 use Rattle.mark_word.specs.Words.{plain}
 use Rattle.thumb_instr.specs.declared.instructions.Instr.{Instr}
 use Rattle.thumb_instr.specs.declared.refusals.ItPlace.TheVariants.{Outside}
@@ -10,6 +10,7 @@ use Rattle.thumb_table.specs.Parts.{CodeBytes}
 use Rattle.thumb_table.specs.States.{Core, Change, Exit, Falls, Jumps, Outcome}
 use Rattle.thumb_table.specs.Schedules.{is_in}
 use Rattle.seq_core.specs.declared.classes.Class.{Class}
+use Rattle.seq_core.specs.declared.classes.Class.TheVariants.{LongSum, PopReturn}
 use Rattle.seq_core.specs.declared.steps.Step.{Step}
 use Rattle.seq_core.specs.Classes.{IsOf, has_pc, adds_long_product}
 use Rattle.seq_core.specs.Needs.{registers_of}
@@ -61,6 +62,10 @@ meaning p i y = if has_pc i then returned (meant i (ends_of p) y) else meant i (
 -- What the sequence may change beside: the scratch registers, and for a long sum the flags.
 abbrev pub loses : Instr → List ℕ → ℕ → Bool
 loses i scratch k = is_in scratch k || (adds_long_product i && is_flag k)
+
+-- Only a PopReturn loads pc, and only a LongSum adds a long product.
+abbrev pub ClassesTellMeanings : Type 0
+ClassesTellMeanings = (c : Class) (i : Instr) → IsOf c i → (c ≢ PopReturn → has_pc i ≡ false) × (c ≢ LongSum → adds_long_product i ≡ false)
 
 -- where a branch's own condition holds; any core, for what has none
 abbrev pub own_test : Instr → Core → Bool

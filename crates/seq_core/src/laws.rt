@@ -1,6 +1,6 @@
 //! Laws of instructions and of sequences. The functions do nothing: their contracts are the laws.
 
-ghost use Rattle.seq_core.specs.Builders.{StepsDo};
+ghost use Rattle.seq_core.specs.Builders.{ClassesTellMeanings, StepsDo};
 ghost use Rattle.seq_core.specs.Denoted.{StepsDenote, StepsWork, StepsWorkOnce};
 ghost use Rattle.seq_core.specs.Effects.{DependsOnReads, GoesTo, KeepsToWrites, LowGoesTo, StaysQuiet, WritesAll};
 ghost use Rattle.seq_core.specs.Example.{AddsWorks};
@@ -69,6 +69,11 @@ pub fn steps_work_once()
 /// So steps whose groups carry out what an instruction means do the instruction, as often as each stands.
 pub fn steps_do()
     ensures { StepsDo }
+{}
+
+/// An instruction of a class other than PopReturn loads no pc, and one of another than LongSum adds no long product.
+pub fn classes_tell_meanings()
+    ensures { ClassesTellMeanings }
 {}
 
 /// One of them in bytes: ADDS of 1 to r0, by way of r12.

@@ -31,9 +31,9 @@ pub use coverage::{
     decodes_are_apart, decodes_keep_flags, instructions_have_one_class, needs_are_small,
 };
 pub use laws::{
-    an_addition_works, effects_depend_on_reads, effects_keep_to_writes, effects_stay_quiet,
-    effects_write_all, low_results_go_to, results_go_to, schedules_are_legal, sequences_work,
-    sequences_work_once, steps_do,
+    an_addition_works, classes_tell_meanings, effects_depend_on_reads, effects_keep_to_writes,
+    effects_stay_quiet, effects_write_all, low_results_go_to, results_go_to, schedules_are_legal,
+    sequences_work, sequences_work_once, steps_do,
 };
 pub use moving_laws::{
     base_copies_of_lists_work, base_copies_of_one_work, base_copies_of_pairs_work,
