@@ -28,7 +28,8 @@ pub use class_laws::{
 pub use classes::{Class, class_of};
 pub use constants::{code_of_move, moves_are_constants};
 pub use coverage::{
-    decodes_are_apart, decodes_keep_flags, instructions_have_one_class, needs_are_small,
+    decodes_are_apart, decodes_keep_flags, decodes_use_stack, instructions_have_one_class,
+    needs_are_small,
 };
 pub use laws::{
     an_addition_works, classes_tell_meanings, effects_depend_on_reads, effects_keep_to_writes,
