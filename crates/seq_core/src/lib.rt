@@ -9,6 +9,7 @@ mod classes;
 mod constants;
 mod coverage;
 mod laws;
+mod making;
 mod moving_laws;
 mod needs;
 mod steps;
@@ -36,6 +37,7 @@ pub use laws::{
     effects_stay_quiet, effects_write_all, low_results_go_to, results_go_to, schedules_are_legal,
     sequences_work, sequences_work_once, steps_do,
 };
+pub use making::{count_registers, moved, sequence, sole_register, summed};
 pub use moving_laws::{
     base_copies_of_lists_work, base_copies_of_one_work, base_copies_of_pairs_work,
     direct_calls_work, flagged_products_work, link_calls_work, lists_downwards_work,
