@@ -27,4 +27,5 @@ pub mod Single
 pub mod Example
 pub mod Denoted
 pub mod Replaced
+pub mod Coded
 pub mod Builders
