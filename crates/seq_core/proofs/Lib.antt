@@ -49,3 +49,4 @@ pub mod MovesCoded
 pub mod Built
 pub mod Denoted
 pub mod Doing
+pub mod Plain
