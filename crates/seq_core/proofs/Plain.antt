@@ -12,13 +12,11 @@ use Rattle.seq_core.specs.Groups.{always, done, names_no_place}
 use Rattle.seq_core.specs.Denoted.{Spots, denoted, groups_of}
 use Rattle.seq_core.specs.Classes.{has_pc}
 use Rattle.seq_core.specs.Built.{as_steps}
-use Rattle.seq_core.specs.Builders.{NameNoPlace, PlainStepsDo, ends_of, meaning, own_test, returned}
+use Rattle.seq_core.specs.Builders.{MoreMayBeLost, NameNoPlace, PlainStepsDo, ends_of, meaning, own_test, returned}
 use Rattle.seq_core.proofs.Doing.{steps_do}
 
--- More may be lost.
-lose_more : (t : Core → Bool) (e : Effect) (lost more : ℕ → Bool) (groups : List Effect) (end : ℕ) → ((k : ℕ) → more k ≡ false → lost k ≡ false) →
-    Carries Settles end t e lost groups → Carries Settles end t e more groups
-lose_more t e lost more groups end le carries = record {
+pub lose_more : MoreMayBeLost
+lose_more end t e lost more groups le carries = record {
   acts = λ y h b taken made. let r = carries.acts y h b taken made in (r.0, r.1, record { count = r.2.count; members = λ k kept. r.2.members k (le k kept); memory = r.2.memory; clear = r.2.clear });
   rests = carries.rests;
   halts = carries.halts;
@@ -122,4 +120,4 @@ plain_steps_do i copies instrs lost more e f all le carries =
         subst (λ (t : Core → Bool). Carries Settles p.end t (meaning p i) more (groups_of p (as_steps copies instrs))) (sym (tested_plainly i e))
         (subst (λ (w : Effect). Carries Settles p.end always w more (groups_of p (as_steps copies instrs))) (sym (means_plainly p i e f))
         (subst (λ (g : List Effect). Carries Settles p.end always (done i) more g) (sym (groups_plainly p copies instrs all))
-        (lose_more always (done i) lost more (map done instrs) p.end le (carries p.end))))
+        (lose_more p.end always (done i) lost more (map done instrs) le (carries p.end))))

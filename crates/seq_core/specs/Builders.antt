@@ -90,6 +90,11 @@ abbrev pub StepsDo : Type 0
 StepsDo = (test : Core → Bool) (i : Instr) (lost : ℕ → Bool) (copies : ℕ) (steps : List Step) →
     ((p : Spots) → Carries Settles p.end test (meaning p i) lost (groups_of p steps)) → Do test i lost copies steps
 
+-- What groups carry out they carry out where more may be lost.
+abbrev pub MoreMayBeLost : Type 0
+MoreMayBeLost = (end : ℕ) (test : Core → Bool) (effect : Effect) (lost more : ℕ → Bool) (groups : List Effect) → ((k : ℕ) → more k ≡ false → lost k ≡ false) →
+    Carries Settles end test effect lost groups → Carries Settles end test effect more groups
+
 abbrev pub NameNoPlace : List Instr → Type 0
 NameNoPlace [] = ⊤
 NameNoPlace (j ∷ js) = (names_no_place j ≡ true) × NameNoPlace js

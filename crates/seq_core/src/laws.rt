@@ -1,6 +1,6 @@
 //! Laws of instructions and of sequences. The functions do nothing: their contracts are the laws.
 
-ghost use Rattle.seq_core.specs.Builders.{ClassesTellMeanings, FullCodesAreRows, PlainStepsDo, StepsDo};
+ghost use Rattle.seq_core.specs.Builders.{ClassesTellMeanings, FullCodesAreRows, MoreMayBeLost, PlainStepsDo, StepsDo};
 ghost use Rattle.seq_core.specs.Denoted.{StepsDenote, StepsWork, StepsWorkOnce};
 ghost use Rattle.seq_core.specs.Effects.{DependsOnReads, GoesTo, KeepsToWrites, LowGoesTo, StaysQuiet, WritesAll};
 ghost use Rattle.seq_core.specs.Example.{AddsWorks};
@@ -71,6 +71,11 @@ pub fn steps_work_once()
 /// So steps whose groups carry out what an instruction means do the instruction, as often as each stands.
 pub fn steps_do()
     ensures { StepsDo }
+{}
+
+/// What groups carry out they carry out where more may be lost.
+pub fn more_may_be_lost()
+    ensures { MoreMayBeLost }
 {}
 
 /// Of instructions that name no place, it is enough that the steps' carry the other one out.

@@ -32,8 +32,9 @@ pub use coverage::{
 };
 pub use laws::{
     an_addition_works, classes_tell_meanings, effects_depend_on_reads, effects_keep_to_writes,
-    effects_stay_quiet, effects_write_all, full_codes_are_rows, low_results_go_to, plain_steps_do,
-    results_go_to, schedules_are_legal, sequences_work, sequences_work_once, steps_do,
+    effects_stay_quiet, effects_write_all, full_codes_are_rows, low_results_go_to,
+    more_may_be_lost, plain_steps_do, results_go_to, schedules_are_legal, sequences_work,
+    sequences_work_once, steps_do,
 };
 pub use moving_laws::{
     base_copies_of_lists_work, base_copies_of_one_work, base_copies_of_pairs_work,
