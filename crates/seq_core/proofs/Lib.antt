@@ -50,3 +50,4 @@ pub mod Built
 pub mod Denoted
 pub mod Doing
 pub mod Plain
+pub mod Made

@@ -10,6 +10,7 @@ pub mod Guards
 pub mod Twice
 pub mod Through
 pub mod Bases
+pub mod Lists
 pub mod Calls
 pub mod Stacks
 pub mod Sums
