@@ -49,5 +49,6 @@ pub mod MovesCoded
 pub mod Built
 pub mod Denoted
 pub mod Doing
+pub mod Plain
 pub mod Made
 pub mod StepsCoded

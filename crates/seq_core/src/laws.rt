@@ -1,6 +1,6 @@
 //! Laws of instructions and of sequences. The functions do nothing: their contracts are the laws.
 
-ghost use Rattle.seq_core.specs.Builders.{ClassesTellMeanings, StepsDo};
+ghost use Rattle.seq_core.specs.Builders.{ClassesTellMeanings, FullCodesAreRows, MoreMayBeLost, PlainStepsDo, StepsDo};
 ghost use Rattle.seq_core.specs.Coded.{AccessesCoded, CopiesCoded, MovesCoded, SumsCoded, TransfersCoded};
 ghost use Rattle.seq_core.specs.Denoted.{StepsDenote, StepsWork, StepsWorkOnce};
 ghost use Rattle.seq_core.specs.Effects.{DependsOnReads, GoesTo, KeepsToWrites, LowGoesTo, StaysQuiet, WritesAll};
@@ -73,6 +73,23 @@ pub fn steps_work_once()
 pub fn steps_do()
     ensures { StepsDo }
 {}
+
+/// What groups carry out they carry out where more may be lost.
+pub fn more_may_be_lost()
+    ensures { MoreMayBeLost }
+{}
+
+/// Of instructions that name no place, it is enough that the steps' carry the other one out.
+pub fn plain_steps_do()
+    ensures { PlainStepsDo }
+{}
+
+/// A formed instruction with a code of two halfwords has a row.
+pub fn full_codes_are_rows()
+    ensures { FullCodesAreRows }
+{
+    full_codes_are_told();
+}
 
 /// An instruction of a class other than PopReturn loads no pc, and one of another than LongSum adds no long product.
 pub fn classes_tell_meanings()

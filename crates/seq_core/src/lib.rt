@@ -34,8 +34,9 @@ pub use coverage::{
 };
 pub use laws::{
     an_addition_works, classes_tell_meanings, effects_depend_on_reads, effects_keep_to_writes,
-    effects_stay_quiet, effects_write_all, low_results_go_to, made_steps_are_coded, results_go_to,
-    schedules_are_legal, sequences_work, sequences_work_once, steps_do,
+    effects_stay_quiet, effects_write_all, full_codes_are_rows, low_results_go_to,
+    made_steps_are_coded, more_may_be_lost, plain_steps_do, results_go_to, schedules_are_legal,
+    sequences_work, sequences_work_once, steps_do,
 };
 pub use making::{count_registers, moved, sequence, sole_register, summed};
 pub use moving_laws::{
