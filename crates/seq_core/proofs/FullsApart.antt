@@ -12,6 +12,7 @@ use Rattle.thumb_instr.specs.declared.operands.Operand.TheVariants.{Imm, Reg}
 use Rattle.thumb_instr.specs.declared.places.Place.{Place}
 use Rattle.thumb_instr.specs.declared.places.PairIndex.{PairIndex}
 use Rattle.thumb_instr.specs.declared.refusals.ItPlace.{ItPlace}
+use Rattle.thumb_instr.specs.Operands.{has}
 use Rattle.thumb_instr.specs.Sets.{moves_base, moves_pair_base}
 use Rattle.thumb_instr.specs.Patterns.{Answer}
 use Rattle.thumb_instr.specs.DataRows.{names, has_odd_sp, alu_row, move_row, test_row, or_test, or_move, data_processing}
@@ -114,6 +115,11 @@ product_tells : (n a d m : ℕ) → tells (product n a d m) ≡ true
 unfolding product
 product_tells n a d m = grind (arith, nat_tests)
 
+-- pc alone
+lacks_link : has 0 14 ≡ false
+unfolding has
+lacks_link = refl
+
 pub full_apart : (place : ItPlace) → AllApart (full_rows place)
 unfolding full_rows
 full_apart place =
@@ -141,7 +147,7 @@ full_apart place =
     & (λ i i-fits. grind (arith, nat_tests, many_tells, dual_tells, data_tells, wide_row_tells, extract_tells, insert_tells, branch_tells, on_access_tells, by_byte_tells, by_register_tells, access_row_tells, product_tells))
     & (λ s s-fits c c-fits i6 i6-fits j j-fits k k-fits i11 i11-fits. grind (arith, nat_tests, many_tells, dual_tells, data_tells, wide_row_tells, extract_tells, insert_tells, branch_tells, on_access_tells, by_byte_tells, by_register_tells, access_row_tells, product_tells))
     & (λ u u-fits t t-fits i i-fits. grind (arith, nat_tests, many_tells, dual_tells, data_tells, wide_row_tells, extract_tells, insert_tells, branch_tells, on_access_tells, by_byte_tells, by_register_tells, access_row_tells, product_tells))
-    & (grind (arith, nat_tests, many_tells, dual_tells, data_tells, wide_row_tells, extract_tells, insert_tells, branch_tells, on_access_tells, by_byte_tells, by_register_tells, access_row_tells, product_tells))
+    & (let alone = lacks_link in grind (arith, nat_tests, many_tells, dual_tells, data_tells, wide_row_tells, extract_tells, insert_tells, branch_tells, on_access_tells, by_byte_tells, by_register_tells, access_row_tells, product_tells))
     & (λ g g-fits z z-fits l l-fits n n-fits t t-fits i i-fits. grind (arith, nat_tests, many_tells, dual_tells, data_tells, wide_row_tells, extract_tells, insert_tells, branch_tells, on_access_tells, by_byte_tells, by_register_tells, access_row_tells, product_tells))
     & (λ g g-fits z z-fits l l-fits n n-fits t t-fits p p-fits u u-fits w w-fits i i-fits. grind (arith, nat_tests, many_tells, dual_tells, data_tells, wide_row_tells, extract_tells, insert_tells, branch_tells, on_access_tells, by_byte_tells, by_register_tells, access_row_tells, product_tells))
     & (λ g g-fits z z-fits l l-fits n n-fits t t-fits shift shift-fits m m-fits. grind (arith, nat_tests, many_tells, dual_tells, data_tells, wide_row_tells, extract_tells, insert_tells, branch_tells, on_access_tells, by_byte_tells, by_register_tells, access_row_tells, product_tells))

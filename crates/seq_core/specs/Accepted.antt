@@ -95,6 +95,16 @@ misplaces_stack (Adr i) = is_stack i.d
 misplaces_stack (ZeroBranch i) = is_stack i.n
 misplaces_stack i = false
 
+-- A list with pc is loaded from sp upwards, which moves behind it, and has no lr (ARMv7-M ARM, A5.3.5).
+abbrev pub loads_pc_by_pop : Instr → Bool
+loads_pc_by_pop (Multi i) = not i.pc || (i.load && (not i.down && (i.back && (is_stack i.n && not (has i.list.0 14)))))
+loads_pc_by_pop i = true
+
+-- Nothing is summed of sp and sp.
+abbrev pub takes_stack_once : Instr → Bool
+takes_stack_once (Alu i) = not (is_stack i.n && operand_names_stack i.x)
+takes_stack_once i = true
+
 -- Whatever halfwords stand for has its base apart and sp where it may stand.
 abbrev pub DecodesApart : Type 0
 DecodesApart = (place : ItPlace) (first second : ℕ) (i : Instr) → decode place first second ≡ Ok i → (keeps_base_apart i ≡ true) × (misplaces_stack i ≡ false)
@@ -105,6 +115,10 @@ ThroughKeepsStack = (place : ItPlace) (first second : ℕ) (i : Instr) → decod
 
 abbrev pub DecodesMoveByBytes : Type 0
 DecodesMoveByBytes = (place : ItPlace) (first second : ℕ) (i : Instr) → decode place first second ≡ Ok i → moves_by_byte i ≡ true
+
+-- So whatever halfwords stand for uses sp.
+abbrev pub DecodesUseStack : Type 0
+DecodesUseStack = (place : ItPlace) (first second : ℕ) (i : Instr) → decode place first second ≡ Ok i → (loads_pc_by_pop i ≡ true) × (takes_stack_once i ≡ true)
 
 -- Nothing is both read and set. The flags of a branch's condition count as read, too, but a branch sets none.
 abbrev pub DecodesKeepFlags : Type 0

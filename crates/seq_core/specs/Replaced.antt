@@ -9,7 +9,7 @@ use Rattle.thumb_instr.specs.declared.register_sets.RegSet.{RegSet}
 use Rattle.thumb_instr.specs.declared.instructions.Instr.{Instr}
 use Rattle.thumb_instr.specs.declared.instructions.Instr.TheVariants as instr
 use Rattle.thumb_instr.specs.Meanings.{constant_of}
-use Rattle.thumb_table.specs.Effects.{registers, bytes_of}
+use Rattle.thumb_table.specs.Effects.{registers, transfer_size}
 use Rattle.seq_core.specs.declared.classes.Class.{Class}
 use Rattle.seq_core.specs.declared.classes.Class.TheVariants.{Twice, Through, ThroughFlags, WriteBack, BaseCopy, LongSum, Push, Pop, PopReturn, SpStep, MultiBack, DirectCall, RegisterCall, RegisterJump, ZeroBranch}
 use Rattle.seq_core.specs.declared.steps.Step.{Step}
@@ -48,7 +48,7 @@ long_summed i a b c = []
 -- Push, Pop and MultiBack: a list, whose base moves before it or behind it
 abbrev pub moved_list : Instr → ℕ → List Instr
 moved_list (instr.Multi i) q =
-    let step : Instr = summing (not i.down) q i.n (constant_of (bytes_of i.list.0 false)) in
+    let step : Instr = summing (not i.down) q i.n (constant_of (transfer_size i.list.0 false)) in
     let list : Instr = transfer_at i.load i.n i.list (registers i.list.0) in
     if i.down then step ∷ moving false i.n q ∷ list ∷ [] else list ∷ step ∷ moving false i.n q ∷ []
 moved_list i q = []
@@ -62,7 +62,7 @@ jumping m = instr.Jump (record { m = m })
 
 abbrev pub popped : Instr → ℕ → List Instr
 popped (instr.Multi i) q =
-    transfer_at true 13 (with_link i.list) (registers (with_link i.list).0) ∷ summing true q 13 (constant_of (bytes_of i.list.0 true)) ∷ moving false 13 q ∷ jumping 14 ∷ []
+    transfer_at true 13 (with_link i.list) (registers (with_link i.list).0) ∷ summing true q 13 (constant_of (transfer_size i.list.0 true)) ∷ moving false 13 q ∷ jumping 14 ∷ []
 popped i q = []
 
 -- SpStep: a sum with sp, by way of a scratch register

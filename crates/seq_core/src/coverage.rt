@@ -1,7 +1,7 @@
 //! Laws of classes. The functions do nothing: their contracts are the laws.
 
 ghost use Rattle.std.specs.Prelude.{◌≡◌, ◌≤◌, false, true};
-ghost use Rattle.seq_core.specs.Accepted.{DecodesApart, DecodesKeepFlags, DecodesMoveByBytes, ThroughKeepsStack};
+ghost use Rattle.seq_core.specs.Accepted.{DecodesApart, DecodesKeepFlags, DecodesMoveByBytes, DecodesUseStack, ThroughKeepsStack};
 ghost use Rattle.seq_core.specs.Classes.{ClassesCover, ClassesApart};
 ghost use Rattle.seq_core.specs.Needs.{ThroughNeeds, NeedsFit};
 
@@ -25,6 +25,11 @@ pub fn decodes_are_apart()
     ensures apart { DecodesApart }
     ensures through { ThroughKeepsStack }
     ensures bytes { DecodesMoveByBytes }
+{}
+
+/// A list loads pc only as a pop without lr, and nothing is summed of sp and sp.
+pub fn decodes_use_stack()
+    ensures { DecodesUseStack }
 {}
 
 /// No instruction both reads a flag and sets it.

@@ -9,6 +9,7 @@ mod classes;
 mod constants;
 mod coverage;
 mod laws;
+mod making;
 mod moving_laws;
 mod needs;
 mod steps;
@@ -28,13 +29,16 @@ pub use class_laws::{
 pub use classes::{Class, class_of};
 pub use constants::{code_of_move, moves_are_constants};
 pub use coverage::{
-    decodes_are_apart, decodes_keep_flags, instructions_have_one_class, needs_are_small,
+    decodes_are_apart, decodes_keep_flags, decodes_use_stack, instructions_have_one_class,
+    needs_are_small,
 };
 pub use laws::{
-    an_addition_works, effects_depend_on_reads, effects_keep_to_writes, effects_stay_quiet,
-    effects_write_all, low_results_go_to, results_go_to, schedules_are_legal, sequences_work,
-    sequences_work_once, steps_do,
+    an_addition_works, classes_tell_meanings, effects_depend_on_reads, effects_keep_to_writes,
+    effects_stay_quiet, effects_write_all, full_codes_are_rows, low_results_go_to,
+    made_steps_are_coded, more_may_be_lost, plain_steps_do, results_go_to, schedules_are_legal,
+    sequences_work, sequences_work_once, steps_do,
 };
+pub use making::{count_registers, moved, sequence, sole_register, summed};
 pub use moving_laws::{
     base_copies_of_lists_work, base_copies_of_one_work, base_copies_of_pairs_work,
     direct_calls_work, flagged_products_work, link_calls_work, lists_downwards_work,

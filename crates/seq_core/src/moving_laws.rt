@@ -55,7 +55,7 @@ pub fn lists_upwards_work()
     ensures { UpCarries }
 {}
 
-/// A pop into pc: it goes to lr, sp moves by way of a scratch register, and a jump by lr follows.
+/// A pop into pc: its word goes to lr, sp moves by way of a scratch register, and a jump by lr follows, which keeps lr.
 pub fn pops_into_pc_work()
     ensures { PopReturnCarries }
 {}
