@@ -1,5 +1,5 @@
 -- What the table of instructions says of the places of relocations.
-use Rattle.std.proofs.Common.{◌≡◌, ◌∙◌, ℕ, ◌+◌, Bool, true, false, List, Some, None, Ok, refl, sym}
+use Rattle.std.proofs.Common.{◌≡◌, ◌∙◌, ℕ, ◌+◌, Bool, true, false, List, Some, None, refl, sym}
 use Rattle.std.specs.Prelude.{not, ◌&&◌, if◌then◌else◌}
 use Rattle.elf_model.specs.declared.objects.RelocKind.{RelocKind}
 use Rattle.elf_model.specs.declared.objects.RelocKind.TheVariants.{Abs32, Target1, ThmCall, ThmJump24, MovwAbs, MovtAbs, ThmJump19, ThmJump11, ThmJump8, Other}
@@ -11,7 +11,7 @@ use Rattle.thumb_instr.specs.declared.refusals.ItPlace.{ItPlace}
 use Rattle.thumb_instr.specs.declared.refusals.ItPlace.TheVariants.{Outside}
 use Rattle.thumb_instr.specs.Blocks.{place_in_block}
 use Rattle.thumb_instr.specs.Formed.{is_always_wide}
-use Rattle.thumb_instr.specs.Numbers.{has_number, renumbered}
+use Rattle.thumb_instr.specs.Numbers.{has_number}
 use Rattle.thumb_instr.specs.Rows.{is_wide, decode, decode_given}
 use Rattle.thumb_instr.proofs.Decoded.{decode_wide}
 use Rattle.thumb_instr.proofs.Numbers.{renumbers}

@@ -1,5 +1,5 @@
 -- What loads and stores change.
-use Rattle.std.proofs.Common.{◌≡◌, ℕ, ◌++◌, Bool, true, false, not, List, [], ◌∷◌, Option, Ok, Err, refl, sym, append-nil}
+use Rattle.std.proofs.Common.{◌≡◌, ℕ, ◌++◌, true, false, [], ◌∷◌, Option, Err, refl, append-nil}
 use Rattle.mark_word.specs.Words.{Word}
 use Rattle.thumb_instr.specs.declared.operations.AccessOp.{AccessOp}
 use Rattle.thumb_instr.specs.declared.operations.AccessOp.TheVariants.{Ldr, Ldrb, Ldrh, Ldrsb, Ldrsh, Str, Strb, Strh}

@@ -1,5 +1,5 @@
 -- What is computed of examples: the links of a list of objects, and the addresses that no relocation has.
-use Rattle.std.specs.Prelude.{◌≡◌, false, ℕ, zero, suc, ◌+◌, not, List, [], ◌∷◌, ◌++◌, filter, Option, Some, None, slice_get, option_and_then, Ok, Err}
+use Rattle.std.specs.Prelude.{ℕ, zero, suc, ◌+◌, not, List, [], ◌∷◌, ◌++◌, filter, Option, Some, slice_get, option_and_then, Ok, Err}
 use Rattle.std.specs.List.{list_any}
 use Rattle.std.specs.Option.{option_to_list}
 use Rattle.elf_model.specs.declared.objects.Reloc.{Reloc}

@@ -1,5 +1,5 @@
 -- The registers of a list, one after the other.
-use Rattle.std.proofs.Common.{◌≡◌, ℕ, zero, suc, ◌+◌, ◌-◌, ◌*◌, ◌<◌, ◌≤◌, not, IsTrue, Bool, true, false, List, [], ◌∷◌, ◌++◌, length, filter, arith, refl, sym, ap, length-set}
+use Rattle.std.proofs.Common.{◌≡◌, ℕ, zero, suc, ◌+◌, ◌-◌, ◌*◌, ◌<◌, ◌≤◌, not, IsTrue, Bool, true, false, List, [], ◌∷◌, ◌++◌, length, filter, arith, refl, length-set}
 use Rattle.std.specs.Prelude.{slice_set}
 use Rattle.mark_word.specs.Words.{Word, Cell}
 use Rattle.mark_word.specs.Marks.{pieces}

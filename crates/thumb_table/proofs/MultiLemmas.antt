@@ -1,7 +1,6 @@
 -- What transfers of lists change.
-use Rattle.std.proofs.Common.{◌≡◌, ℕ, ◌+◌, ◌-◌, ◌%◌, ◌==◌, ◌++◌, ◌&&◌, ◌||◌, not, Bool, true, false, List, [], ◌∷◌, filter, Ok, Err, refl, sym, ◌∙◌, ap, inl, inr, eq-eqb, if◌then◌else◌}
+use Rattle.std.proofs.Common.{◌≡◌, ℕ, ◌+◌, ◌-◌, ◌%◌, ◌==◌, ◌++◌, ◌&&◌, not, Bool, true, false, List, [], ◌∷◌, filter, Ok, Err, refl, eq-eqb, if◌then◌else◌}
 use Rattle.std.specs.List.{list_any}
-use Rattle.std.proofs.lemmas.Bool.Decides.{eqb_tells}
 use Rattle.mark_word.specs.Words.{Word}
 use Rattle.thumb_instr.specs.declared.instructions.Instr.TheVariants.{Multi}
 use Rattle.thumb_instr.specs.Fields.{MultiFields}
@@ -12,9 +11,9 @@ use Rattle.thumb_table.specs.declared.faults.FaultKind.TheVariants.{BadJump}
 use Rattle.thumb_table.specs.Parts.{Memory}
 use Rattle.thumb_table.specs.States.{Core, Change, Site, is_askew, upright, write_all}
 use Rattle.thumb_table.specs.Steps.{settled}
-use Rattle.thumb_table.specs.Effects.{value, registers, loaded, transferred, after_base, base_moved, transfer_size, lowest, on_words, and_next, jump_if, change, word_at}
+use Rattle.thumb_table.specs.Effects.{value, registers, loaded, transferred, after_base, transfer_size, lowest, on_words, and_next, jump_if, change}
 use Rattle.thumb_table.specs.CoreStates.{core_of, state_of, alone}
-use Rattle.thumb_table.specs.Views.{with_cells, list_change, list_outcome}
+use Rattle.thumb_table.specs.Views.{with_cells, list_outcome}
 use Rattle.thumb_table.proofs.MarkLemmas.{differs}
 
 pub multi_change : (i : MultiFields) (site : Site) (s : Registers) (m : Memory) (bytes a : ℕ) → bytes ≡ transfer_size i.list.0 i.pc → a ≡ lowest i.down (value (alone s) i.n) bytes

@@ -1,10 +1,6 @@
 -- Registers that are used as numbers.
-use Rattle.std.proofs.Common.{◌≡◌, ℕ, Bool, true, false, List, [], ◌∷◌, ◌++◌, IsTrue, refl, subst}
-use Rattle.std.specs.Prelude.{All, ◌↔◌}
-use Rattle.thumb_instr.specs.declared.operations.AccessOp.{AccessOp}
-use Rattle.thumb_instr.specs.declared.places.Place.{Place}
-use Rattle.thumb_table.specs.Ordinary.{in_place, in_part}
-use Rattle.std.proofs.lemmas.Bool.{false≢true}
+use Rattle.std.proofs.Common.{◌≡◌, ℕ, Bool, true, false, List, [], ◌∷◌, ◌++◌, IsTrue}
+use Rattle.std.specs.Prelude.{All}
 use Rattle.std.proofs.lemmas.List.Elements.{All-nil, All-cons, All-head, All-tail, All-append}
 
 pub front : (P : ℕ → Type 0) (xs ys : List ℕ) → All P (xs ++ ys) → All P xs

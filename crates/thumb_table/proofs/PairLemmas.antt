@@ -1,12 +1,12 @@
 -- What transfers of two words change.
-use Rattle.std.proofs.Common.{◌≡◌, ℕ, ◌+◌, ◌++◌, Bool, true, false, List, [], ◌∷◌, Option, Ok, Err, refl, sym, append-nil}
-use Rattle.mark_word.specs.Words.{Word, Cell}
+use Rattle.std.proofs.Common.{◌≡◌, ℕ, ◌+◌, ◌++◌, true, false, [], ◌∷◌, Option, refl, append-nil}
+use Rattle.mark_word.specs.Words.{Word}
 use Rattle.mark_word.specs.Marks.{pieces}
 use Rattle.thumb_instr.specs.declared.instructions.Instr.TheVariants.{Pair}
 use Rattle.thumb_instr.specs.Fields.{PairFields}
 use Rattle.thumb_table.specs.declared.cores.Core.{Core as Registers}
 use Rattle.thumb_table.specs.Parts.{Memory}
-use Rattle.thumb_table.specs.States.{Core, Site, read, unchanged, upright}
+use Rattle.thumb_table.specs.States.{Site, read, unchanged, upright}
 use Rattle.thumb_table.specs.Effects.{access_address, base_write, pair_place, on_words, from, word_at, writing, change}
 use Rattle.thumb_table.specs.CoreStates.{core_of, alone}
 use Rattle.thumb_table.specs.Views.{base_list, pair_outcome}

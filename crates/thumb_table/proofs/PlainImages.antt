@@ -1,5 +1,5 @@
 -- Objects without relocations: their image has the sections' bytes, data without pieces, and no marks.
-use Rattle.std.proofs.Common.{◌≡◌, ◌≤◌, ◌<◌, ℕ, zero, suc, ◌+◌, List, [], ◌∷◌, length, map, get_or, Some, refl, sym, ap, ◌∙◌, subst, inl, inr, arith}
+use Rattle.std.proofs.Common.{◌≡◌, ◌≤◌, ℕ, zero, suc, ◌+◌, List, [], ◌∷◌, length, map, get_or, Some, refl, sym, ap, ◌∙◌, subst, inl, inr, arith}
 use Rattle.std.specs.Prelude.{◌↔◌, Contains, slice_get}
 use Rattle.std.specs.List.Sorted.{IsStrictlyIncreasing}
 use Rattle.std.proofs.lemmas.Bool.{cases_lt}
@@ -10,8 +10,7 @@ use Rattle.elf_model.specs.Canonical.{round_up}
 use Rattle.elf_model.specs.Fields.{byte_at}
 use Rattle.elf_model.specs.Objects.{ObjectParts}
 use Rattle.elf_model.proofs.Elements.{contains_here, contains_none}
-use Rattle.mark_word.specs.Words.{Cell, bare}
-use Rattle.reloc_places.specs.Relocations.{IsRight}
+use Rattle.mark_word.specs.Words.{bare}
 use Rattle.thumb_table.specs.declared.placements.Placement.{Placement}
 use Rattle.thumb_table.specs.declared.parts.PlaceMark.{PlaceMark}
 use Rattle.thumb_table.specs.Parts.{Memory, Image}
@@ -20,7 +19,7 @@ use Rattle.thumb_table.specs.Names.{Defined, entries_of}
 use Rattle.thumb_table.specs.Links.{Link, IsLink}
 use Rattle.thumb_table.specs.LinkFaults.{IsReloc, IsSecond, LinkFault}
 use Rattle.thumb_table.specs.LinkFaults.LinkFault.{misplaced, undefined, defined_twice, long_code, long_data, high_end, out_of_range}
-use Rattle.thumb_table.specs.Images.{IsStop, CanLink, IsLinkedCode, IsLinkedData, IsMarked, IsImage}
+use Rattle.thumb_table.specs.Images.{IsStop, CanLink, IsImage}
 
 pub record ArePlain (objects : List ObjectParts) : Type 0 where
   pub each : (i : ℕ) (o : ObjectParts) → slice_get objects i ≡ Some o → o.relocs ≡ []

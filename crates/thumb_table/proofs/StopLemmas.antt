@@ -1,5 +1,5 @@
 -- Stops, and the walk over instructions that do nothing.
-use Rattle.std.proofs.Common.{◌≡◌, ℕ, zero, suc, ◌+◌, ◌-◌, ◌*◌, ◌<◌, ◌≤◌, ◌↔◌, Bool, true, false, List, length, get_or, Result, Ok, Err, MatchResult, IsTrue, ◌%◌, inl, inr, arith, add-zero, ap, refl}
+use Rattle.std.proofs.Common.{◌≡◌, ℕ, zero, suc, ◌+◌, ◌-◌, ◌*◌, ◌<◌, ◌≤◌, Bool, List, length, get_or, Result, Ok, Err, MatchResult, IsTrue, ◌%◌, inl, inr, arith, add-zero, ap, refl}
 use Rattle.std.specs.Prelude.{is_ok, Contains}
 use Rattle.std.specs.List.Sorted.{IsStrictlyIncreasing}
 use Rattle.std.proofs.lemmas.Grind.{get_or_default_zero}

@@ -1,5 +1,5 @@
 -- Writes to registers and memory, carried out.
-use Rattle.std.proofs.Common.{◌≡◌, ℕ, ◌++◌, ◌||◌, Bool, true, false, List, [], ◌∷◌, Option, Some, None, Ok, Err, refl, sym, ap}
+use Rattle.std.proofs.Common.{◌≡◌, ℕ, ◌++◌, ◌||◌, Bool, true, false, List, Option, Some, None, Ok, Err, refl}
 use Rattle.std.specs.List.{list_any}
 use Rattle.mark_word.specs.Words.{Word, Cell, plain}
 use Rattle.thumb_instr.specs.Blocks.{it_after}

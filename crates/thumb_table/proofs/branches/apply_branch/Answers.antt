@@ -1,7 +1,7 @@
 use Rattle.std.proofs.Common.{◌≡◌, ◌∙◌, sym}
 use Rattle.thumb_table.specs.Effects.{change}
 use Rattle.thumb_table.specs.Conditions.{holds}
-use Rattle.thumb_table.specs.CoreStates.{core_of, alone}
+use Rattle.thumb_table.specs.CoreStates.{core_of}
 use Rattle.thumb_table.proofs.BranchLemmas.{branched, holds_alone}
 use Rattle.thumb_table.proofs.branches.apply_branch.Goals as goal
 

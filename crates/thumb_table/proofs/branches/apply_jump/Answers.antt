@@ -1,4 +1,4 @@
-use Rattle.std.proofs.Common.{◌≡◌, ◌%◌, ◌∙◌, eq-eqb, sym, refl}
+use Rattle.std.proofs.Common.{◌≡◌, ◌%◌, eq-eqb, refl}
 use Rattle.thumb_table.specs.Effects.{change, value}
 use Rattle.thumb_table.specs.CoreStates.{core_of}
 use Rattle.thumb_table.proofs.MarkLemmas.{differs}

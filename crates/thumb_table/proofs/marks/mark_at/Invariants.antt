@@ -1,4 +1,4 @@
-use Rattle.std.proofs.Common.{◌≡◌, ◌-◌, ◌<◌, ◌≤◌, map, ℕ, length, get_or}
+use Rattle.std.proofs.Common.{◌-◌, ◌<◌, ◌≤◌, map, ℕ, length, get_or}
 use Rattle.thumb_table.proofs.marks.mark_at.Given as goal
 
 abbrev pub invariant-halve : goal.invariant-halve

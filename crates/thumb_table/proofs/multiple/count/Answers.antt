@@ -1,6 +1,6 @@
-use Rattle.std.proofs.Common.{◌≡◌, ◌+◌, ◌<◌, ◌∙◌, length, arith, sym, ap, true, false}
+use Rattle.std.proofs.Common.{◌≡◌, ◌<◌, length, arith, ap, true, false}
 use Rattle.thumb_instr.specs.Operands.{has}
-use Rattle.thumb_table.proofs.ListLemmas.{rest, rest_first, rest_last, rest_has, rest_lacks}
+use Rattle.thumb_table.proofs.ListLemmas.{rest_first, rest_last, rest_has, rest_lacks}
 use Rattle.thumb_table.proofs.multiple.count.Goals as goal
 use Rattle.thumb_table.proofs.multiple.count.Goals.{then-has, else-has}
 

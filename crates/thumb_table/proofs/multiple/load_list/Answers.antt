@@ -1,9 +1,8 @@
-use Rattle.std.proofs.Common.{◌≡◌, ◌+◌, ◌*◌, ◌<◌, ◌∙◌, length, arith, sym, ap, true, false, refl}
+use Rattle.std.proofs.Common.{◌≡◌, ◌<◌, ◌∙◌, length, arith, sym, ap, true, false, refl}
 use Rattle.std.specs.Prelude.{slice_set}
 use Rattle.thumb_instr.specs.Operands.{has}
 use Rattle.thumb_table.specs.declared.cores.Core.{Core as Registers}
-use Rattle.thumb_table.specs.Effects.{word_at}
-use Rattle.thumb_table.proofs.ListLemmas.{rest, rest_first, rest_last, rest_has, rest_lacks, load_step}
+use Rattle.thumb_table.proofs.ListLemmas.{rest_first, rest_last, rest_has, rest_lacks, load_step}
 use Rattle.thumb_table.proofs.multiple.load_list.Goals as goal
 use Rattle.thumb_table.proofs.multiple.load_list.Goals.{then-has, else-has}
 

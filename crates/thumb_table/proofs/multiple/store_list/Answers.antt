@@ -1,11 +1,10 @@
-use Rattle.std.proofs.Common.{◌≡◌, ◌+◌, ◌*◌, ◌<◌, ◌≤◌, ◌∙◌, length, arith, sym, ap, true, false, refl}
-use Rattle.std.proofs.lemmas.Bool.Decides.{leb_tells}
+use Rattle.std.proofs.Common.{◌≡◌, ◌<◌, ◌∙◌, length, arith, sym, ap, true, false, refl}
 use Rattle.mark_word.specs.Marks.{pieces}
 use Rattle.thumb_instr.specs.Operands.{has}
 use Rattle.thumb_table.specs.States.{read, store_all}
-use Rattle.thumb_table.specs.Effects.{lies_in, from, stored}
+use Rattle.thumb_table.specs.Effects.{from}
 use Rattle.thumb_table.specs.CoreStates.{alone}
-use Rattle.thumb_table.proofs.ListLemmas.{rest, rest_first, rest_last, rest_has, rest_lacks, store_step, length_stored}
+use Rattle.thumb_table.proofs.ListLemmas.{rest_first, rest_last, rest_has, rest_lacks, store_step, length_stored}
 use Rattle.thumb_table.proofs.MemoryLemmas.{lies_where}
 use Rattle.thumb_table.proofs.multiple.store_list.Goals as goal
 use Rattle.thumb_table.proofs.multiple.store_list.Goals.{then-has, else-has}

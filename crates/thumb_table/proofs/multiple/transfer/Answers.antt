@@ -6,7 +6,7 @@ use Rattle.mark_word.specs.Words.{Word}
 use Rattle.thumb_table.specs.States.{is_askew}
 use Rattle.thumb_table.specs.Effects.{registers, value, base_moved}
 use Rattle.thumb_table.specs.CoreStates.{core_of, alone}
-use Rattle.thumb_table.specs.Views.{base_list, list_change, popped}
+use Rattle.thumb_table.specs.Views.{list_change, popped}
 use Rattle.thumb_table.proofs.MultiLemmas.{lacks_sp, registers_lack, moves_upright, moved_list, no_jump}
 use Rattle.thumb_table.proofs.multiple.transfer.Goals as goal
 use Rattle.thumb_table.proofs.multiple.transfer.Goals.{else-i-via-then-i+else-bits-ne1, else-i-via-else-i}

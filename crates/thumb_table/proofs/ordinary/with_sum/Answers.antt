@@ -1,4 +1,4 @@
-use Rattle.std.proofs.Common.{ℕ, [], ◌∷◌}
+use Rattle.std.proofs.Common.{[], ◌∷◌}
 use Rattle.thumb_table.specs.States.{read}
 use Rattle.thumb_table.specs.Ordinary.{IsPlain, in_sum}
 use Rattle.thumb_table.specs.CoreStates.{alone}

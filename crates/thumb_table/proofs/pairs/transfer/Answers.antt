@@ -4,7 +4,7 @@ use Rattle.thumb_instr.specs.Fields.{PairFields}
 use Rattle.mark_word.specs.Marks.{pieces}
 use Rattle.thumb_table.specs.States.{read}
 use Rattle.thumb_table.specs.Effects.{from, word_at}
-use Rattle.thumb_table.specs.CoreStates.{alone, core_of}
+use Rattle.thumb_table.specs.CoreStates.{alone}
 use Rattle.thumb_table.proofs.PairLemmas.{pair_load, pair_store}
 use Rattle.thumb_table.proofs.pairs.transfer.Goals as goal
 

@@ -1,10 +1,9 @@
-use Rattle.std.proofs.Common.{◌≡◌, ◌+◌, ◌<◌, ◌∙◌, arith, sym, ap, true, false, refl}
+use Rattle.std.proofs.Common.{◌≡◌, ◌<◌, ◌∙◌, arith, sym, ap, true, false, refl}
 use Rattle.std.proofs.lemmas.Bool.{false≢true}
 use Rattle.mark_word.specs.declared.cells.Joined.{Joined}
 use Rattle.thumb_instr.specs.Operands.{has}
-use Rattle.thumb_table.specs.Effects.{registers, word_at}
-use Rattle.thumb_table.specs.Ordinary.{AreWhole}
-use Rattle.thumb_table.proofs.ListLemmas.{rest, rest_first, rest_lacks, whole_on, whole_back, whole_last, negated, not_negated}
+use Rattle.thumb_table.specs.Effects.{word_at}
+use Rattle.thumb_table.proofs.ListLemmas.{rest_first, rest_lacks, whole_on, whole_back, whole_last, negated, not_negated}
 use Rattle.thumb_table.proofs.proper.are_whole.Goals as goal
 use Rattle.thumb_table.proofs.proper.are_whole.Goals.{then-has+else-not-word_at, else-has}
 

@@ -1,8 +1,8 @@
-use Rattle.std.proofs.Common.{◌≡◌, ◌∙◌, true, sym}
+use Rattle.std.proofs.Common.{◌≡◌, true, sym}
 use Rattle.thumb_table.specs.Effects.{registers, value, transfer_size, lowest}
 use Rattle.thumb_table.specs.Ordinary.{AreWhole}
 use Rattle.thumb_table.specs.CoreStates.{alone}
-use Rattle.thumb_table.proofs.ListLemmas.{with_pc, not_negated}
+use Rattle.thumb_table.proofs.ListLemmas.{with_pc}
 use Rattle.thumb_table.proofs.proper.is_multi_proper.Goals as goal
 
 pub returns-else-not-i-2 : goal.returns-else-not-i-2
