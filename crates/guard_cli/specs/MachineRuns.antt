@@ -16,7 +16,7 @@ use Rattle.skip_machine.specs.declared.machines.Outcome.TheVariants.{Returned, F
 use Rattle.skip_machine.specs.Runs.{RunEnds}
 use Rattle.std.specs.Option.{option_to_list}
 use Rattle.guard_cli.specs.FirstForm.{at_start}
-use Rattle.guard_cli.specs.Words.{RunWords}
+use Rattle.guard_words.specs.Words.{RunWords}
 use Rattle.guard_cli.specs.Texts.{returned_line, stopped_line, unfinished_line}
 use Rattle.guard_cli.specs.LinkWork.{IsOf, IsLinkInputRefusal}
 use Rattle.guard_cli.specs.Works.{Work, OfOne}
