@@ -1,11 +1,10 @@
 -- The work of `run`: which runs there are, and what is said of them.
-use Rattle.std.specs.Prelude.{◌≡◌, ◌≢◌, ◌↔◌, ◌<◌, ◌≤◌, ◌⊎◌, ℕ, Bool, true, List, [], ◌∷◌, Some, None, Ok, Err, ⊤}
+use Rattle.std.specs.Prelude.{◌≡◌, ◌↔◌, ◌⊎◌, ℕ, Bool, true, List, [], ◌∷◌, Some, None, ⊤}
 use Rattle.elf_model.specs.declared.refusals.Refusal.TheVariants.{NoEntry}
 use Rattle.elf_model.specs.declared.refusals.Spot.{Spot}
 use Rattle.elf_model.specs.declared.refusals.TheConstants.Limit.{ANY}
 use Rattle.elf_model.specs.Objects.{ObjectParts}
 use Rattle.thumb_table.specs.declared.placements.Placement.{Placement}
-use Rattle.thumb_table.specs.declared.faults.FaultKind.{FaultKind}
 use Rattle.thumb_table.specs.Parts.{Image}
 use Rattle.thumb_table.specs.States.{State, read}
 use Rattle.thumb_table.specs.Schedules.{is_in, ReturnsWithin, OrdinaryRun}
