@@ -1,5 +1,6 @@
 use crate::calls::{Answer, Call, answers};
-use crate::files::{FIVE, HARDENED, PLAIN, WITH_DEBUG, plain_with, without_sections};
+use crate::files::{plain_with, without_sections};
+use sample_files::{FIVE, HARDENED, PLAIN, WITH_DEBUG};
 use std::alloc::Global;
 use std::process::Abort;
 use std::test::Fail;

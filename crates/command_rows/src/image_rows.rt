@@ -1,8 +1,9 @@
 //! Rows of `link` and `run`.
 
 use crate::calls::{Answer, USAGE, answers_over, named};
-use crate::files::{FIVE, HARDENED, IMAGE, PLAIN, of_code};
+use crate::files::of_code;
 use guard_io::NamedFile;
+use sample_files::{FIVE, HARDENED, IMAGE, PLAIN};
 use std::alloc::{AllocError, Global};
 use std::process::Abort;
 use std::test::Fail;

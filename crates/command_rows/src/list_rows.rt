@@ -1,5 +1,6 @@
 use crate::calls::{Call, answers};
-use crate::files::{PLAIN, of_code, without_sections};
+use crate::files::{of_code, without_sections};
+use sample_files::PLAIN;
 use std::alloc::Global;
 use std::process::Abort;
 use std::test::Fail;

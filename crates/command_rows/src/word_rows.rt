@@ -1,8 +1,8 @@
 //! Which words are a command, and how its numbers and names are read.
 
 use crate::calls::{Call, USAGE, answers};
-use crate::files::{HARDENED, PLAIN};
-use std::alloc::Global;
+use sample_files::{HARDENED, PLAIN};
+use std::alloc::{AllocError, Global};
 use std::process::Abort;
 use std::test::Fail;
 
@@ -92,7 +92,6 @@ fn understands_no_other_words(rt: HostRuntime) -> Result<(), Fail> {
         "harden a.o --",
         "harden a.o ",
         "hardens a.o b.o",
-        "harden a.o b.o a b a b a b a b a b a b a b a b a b a b a b a b a b a b a b a b",
         "list",
         "list a.o b.o",
         "list -h",
@@ -137,7 +136,6 @@ fn reads_no_other_links(rt: HostRuntime) -> Result<(), Fail> {
         "link --base 0 --room 0 i.bin b.o",
         "link --base 0 --room 12 i.bin b.o",
         "link --base 0 --room 524296 i.bin b.o",
-        "link --base 0 --room 64 o a a a a a a a a a a a a a a a a a",
     ] {
         says(&rt, rt.alloc(), line, 2, USAGE)?;
     }
@@ -166,9 +164,38 @@ fn reads_no_other_runs(rt: HostRuntime) -> Result<(), Fail> {
         "run --base 0 --room 64 --entry f --steps 1 --skip 0x2 b.o",
         "run --base 0 --room 64 --entry f --steps 1 --skip 9223372036854775808 b.o",
         "run --base 0 --room 64 --entry f --steps 1 --skip= b.o",
-        "run --base 0 --room 64 --entry f --steps 1 a a a a a a a a a a a a a a a a a",
     ] {
         says(&rt, rt.alloc(), line, 2, USAGE)?;
+    }
+    Ok(())
+}
+
+/// A line with so many inputs.
+fn with_inputs(
+    alloc: Global,
+    start: &str,
+    input: &str,
+    count: usize,
+) -> Result<String, AllocError> {
+    let mut line = String::from_str(alloc, start)?;
+    for _ in 0..count {
+        line.push_str(input)?;
+    }
+    Ok(line)
+}
+
+#[test]
+fn takes_sixteen_inputs_at_most(rt: HostRuntime) -> Result<(), Fail> {
+    for (start, input) in [
+        ("harden", " a b"),
+        ("link --base 0 --room 64 o", " a"),
+        ("run --base 0 --room 64 --entry f --steps 1", " a"),
+    ] {
+        let not_yet = "a: refused 32 NotYet section 0 offset 0\n";
+        let most = with_inputs(rt.alloc(), start, input, 16)?;
+        says(&rt, rt.alloc(), &most, 1, not_yet)?;
+        let more = with_inputs(rt.alloc(), start, input, 17)?;
+        says(&rt, rt.alloc(), &more, 2, USAGE)?;
     }
     Ok(())
 }

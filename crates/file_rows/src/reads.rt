@@ -1,9 +1,9 @@
 //! Objects of files, and the first fault of others.
 
-use crate::files::{COMPILED, HARDENED, PLAIN};
 use elf_model::Refusal::*;
 use elf_model::{Deny, Limit, MapRow, Refusal, Reloc, RelocKind, RowKind, Spot};
 use elf_read::{read_map, read_object};
+use sample_files::{COMPILED, HARDENED, PLAIN};
 use std::alloc::{AllocError, Global};
 use std::process::Abort;
 

@@ -1,9 +1,9 @@
 //! The files of objects.
 
-use crate::files::{PLACED, PLAIN};
 use crate::objects::{Mark, Part, Row, object_of};
 use elf_model::{Home, Object, RelocKind};
 use elf_write::{has_room, write_object};
+use sample_files::{PLACED, PLAIN};
 use std::alloc::{AllocError, Global};
 use std::process::Abort;
 

@@ -1,19 +1,20 @@
 -- Commands that are carried out, each by its cases.
-use Rattle.std.proofs.Common.{◌≡◌, ◌+◌, ℕ, List, [], ◌∷◌, IsTrue, refl, sym, subst}
+use Rattle.std.proofs.Common.{◌≡◌, ◌+◌, inl, ℕ, List, [], ◌∷◌, IsTrue, refl, sym, subst}
 use Rattle.std.specs.Prelude.{All}
 use Rattle.std.proofs.lemmas.List.Elements.{All-head}
 use Rattle.elf_model.specs.declared.refusals.Spot.{Spot}
 use Rattle.guard_cli.specs.declared.endings.Ending.{Ending}
-use Rattle.guard_cli.specs.declared.endings.Ending.TheVariants.{Refused, Usage}
-use Rattle.guard_cli.specs.declared.tasks.Task.{Task}
-use Rattle.guard_cli.specs.declared.tasks.Task.TheVariants as task
+use Rattle.guard_cli.specs.declared.endings.Ending.TheVariants.{Done, Refused, Usage, ReadFault, WriteFault, PrintFault, NoMemory, Stopped}
+use Rattle.guard_words.specs.declared.tasks.Task.{Task}
+use Rattle.guard_words.specs.declared.tasks.Task.TheVariants as task
 use Rattle.guard_cli.specs.Texts.{refused_line}
 use Rattle.guard_cli.specs.Moments.{Files, Screen, Untouched, IsToldOf}
 use Rattle.guard_cli.specs.Works.{Input, AreLoaded, input_named}
 use Rattle.guard_io.specs.Outside.{IsLoaded}
-use Rattle.guard_cli.specs.Endings.{HasLoaded, ComesTo, EndsAs}
-use Rattle.guard_cli.specs.Meanings.{Means}
-use Rattle.guard_cli.specs.Steps.{meaning_by, work_by, input_by, limit_by, IsSound}
+use Rattle.guard_cli.specs.Endings.{HasLoaded, ComesTo, EndsAs, IsTurnedAwayAs}
+use Rattle.guard_words.specs.Meanings.{Means}
+use Rattle.guard_cli.specs.Steps.{work_by, input_by, limit_by, IsSound}
+use Rattle.guard_words.specs.Tasks.{meaning_by}
 
 pub sound_by : (words : List (List ℕ)) (t : Task) → Means words (meaning_by t) → IsSound t
 sound_by words (task.Harden input output) h = tt
@@ -55,17 +56,25 @@ input_there (task.Link c) P all = All-head (λ (i : Input). P i.name) _ [] all
 input_there (task.Run c) P all = All-head (λ (i : Input). P i.name) _ [] all
 input_there (task.List input) P all = All-head (λ (i : Input). P i.name) _ [] all
 
-pub refused_comes : (t : Task) (spot : Spot) (bytes : List ℕ) (old new : Files) (screen after : Screen) → HasLoaded (work_by t) old (bytes ∷ []) → (work_by t).Refuses (bytes ∷ []) spot → Untouched old new
-    → IsToldOf (refused_line (input_by t) spot) screen after → EndsAs (work_by t) old new screen after (Refused spot)
-refused_comes t spot bytes old new screen after has cause same said =
-    comes_ends t old new screen after (Refused spot)
+pub refused_comes : (t : Task) (spot : Spot) (bytes : List ℕ) (old new : Files) (screen after : Screen) (ending : Ending) → HasLoaded (work_by t) old (bytes ∷ []) → (work_by t).Refuses (bytes ∷ []) spot
+    → Untouched old new → IsTurnedAwayAs (input_by t) spot screen after ending → EndsAs (work_by t) old new screen after ending
+refused_comes t spot bytes old new screen after (Refused told) has cause same (is, said) =
+    subst (λ (s : Spot). EndsAs (work_by t) old new screen after (Refused s)) (sym is)
+    (comes_ends t old new screen after (Refused spot)
     (record {
       loaded = bytes ∷ [];
       inputs = has;
       cause = cause;
       untouched = same;
       said = subst (λ (n : List ℕ). IsToldOf (refused_line n spot) screen after) (sym (named_input t spot.file)) said;
-    })
+    }))
+refused_comes t spot bytes old new screen after NoMemory has cause same said = comes_ends t old new screen after NoMemory (inl (same, said))
+refused_comes t spot bytes old new screen after Done has cause same said = absurd said
+refused_comes t spot bytes old new screen after Usage has cause same said = absurd said
+refused_comes t spot bytes old new screen after ReadFault has cause same said = absurd said
+refused_comes t spot bytes old new screen after WriteFault has cause same said = absurd said
+refused_comes t spot bytes old new screen after PrintFault has cause same said = absurd said
+refused_comes t spot bytes old new screen after (Stopped outcome) has cause same said = absurd said
 
 -- what was loaded of the input of a command
 pub has_loaded : (t : Task) (old : Files) (name : List ℕ) (most : ℕ) (bytes : List ℕ) → name ≡ input_by t → most ≡ limit_by t + 1 → (IsTrue old.told → IsLoaded (old.content name) most bytes)

@@ -1,39 +1,41 @@
 -- Commands that are not handled yet, and those for which memory is wanting as they are read.
-use Rattle.std.proofs.Common.{◌≡◌, ◌≤◌, ◌⊎◌, inl, inr, ℕ, List, [], ◌∷◌, length, refl, sym, subst, arith}
+use Rattle.std.proofs.Common.{◌≡◌, ◌≤◌, ◌⊎◌, inl, inr, ℕ, List, [], ◌∷◌, length, sym, subst, arith}
 use Rattle.elf_model.specs.declared.refusals.Refusal.TheVariants.{NotYet}
-use Rattle.guard_cli.specs.declared.endings.Ending.TheVariants.{Refused, NoMemory}
+use Rattle.elf_model.specs.declared.refusals.Spot.{Spot}
+use Rattle.guard_cli.specs.declared.endings.Ending.{Ending}
+use Rattle.guard_cli.specs.declared.endings.Ending.TheVariants.{Usage, NoMemory}
 use Rattle.guard_cli.specs.FirstForm.{at_start}
-use Rattle.guard_cli.specs.Texts.{refused_line, no_memory_line}
-use Rattle.guard_cli.specs.Words.{LinkWords, RunWords, Skips, listed, drawn, IsRun, IsList}
-use Rattle.guard_cli.specs.Commands.{IsFirst, AreDrawn, IsEarly}
-use Rattle.guard_cli.specs.Meanings.{Meaning, harden, link, run, list, Means, link_by, run_by, work_of}
+use Rattle.guard_cli.specs.Texts.{no_memory_line}
+use Rattle.guard_words.specs.Words.{LinkWords, RunWords, Skips, listed, drawn, IsRun, IsList}
+use Rattle.guard_words.specs.Commands.{IsFirst, AreDrawn, IsEarly}
+use Rattle.guard_words.specs.Meanings.{Meaning, harden, link, run, list, Means}
+use Rattle.guard_cli.specs.Meant.{link_by, run_by, work_of}
 use Rattle.guard_cli.specs.Moments.{Files, Screen, Untouched, IsToldOf}
 use Rattle.guard_cli.specs.Works.{Work, input_named}
-use Rattle.guard_cli.specs.Endings.{EndsAs, IsRefusedAtOnce}
-use Rattle.guard_cli.proofs.Meanings.{meant}
+use Rattle.guard_cli.specs.Endings.{EndsAs, IsRefusedAtOnce, IsTurnedAwayAs}
+use Rattle.guard_words.proofs.Meanings.{meant}
 
-module _ (old new : Files) (screen after : Screen) where
+module _ (old new : Files) (screen after : Screen) (ending : Ending) where
   -- a refusal of the first of these inputs, before anything is loaded
   pub record IsTurnedAway (input : List ℕ) : Type 0 where
     pub untouched : Untouched old new
     pub loads : new.load_faults ≡ old.load_faults
-    pub said : IsToldOf (refused_line input (at_start NotYet)) screen after
+    pub turned : IsTurnedAwayAs input (at_start NotYet) screen after ending
 
-  refused_of : (w : Work) (input : List ℕ) → IsTurnedAway input → input_named w.inputs 0 ≡ input → IsRefusedAtOnce w (at_start NotYet) old new screen after (Refused (at_start NotYet))
+  refused_of : (w : Work) (input : List ℕ) → IsTurnedAway input → input_named w.inputs 0 ≡ input → IsRefusedAtOnce w (at_start NotYet) old new screen after ending
   refused_of w input t e = record {
-    ending_is = refl;
     untouched = t.untouched;
     loads = t.loads;
-    said = subst (λ (n : List ℕ). IsToldOf (refused_line n (at_start NotYet)) screen after) (sym e) t.said;
+    turned = subst (λ (n : List ℕ). IsTurnedAwayAs n (at_start NotYet) screen after ending) (sym e) t.turned;
   }
 
-  link_turned : (l : LinkWords) (input : List ℕ) (inputs : List (List ℕ)) → IsTurnedAway input → IsFirst inputs input → 2 ≤ length inputs → EndsAs (link_by l inputs) old new screen after (Refused (at_start NotYet))
+  link_turned : (l : LinkWords) (input : List ℕ) (inputs : List (List ℕ)) → IsTurnedAway input → IsFirst inputs input → 2 ≤ length inputs → EndsAs (link_by l inputs) old new screen after ending
   link_turned l input [] t first several = absurd first
   link_turned l input (x ∷ []) t first several = absurd (omega arith)
   link_turned l input (x ∷ y ∷ inputs) t first several = refused_of (link_by l (x ∷ y ∷ inputs)) input t first
 
   run_turned : (r : RunWords) (input : List ℕ) (inputs : List (List ℕ)) (skips : Skips) → IsTurnedAway input → IsFirst inputs input → (2 ≤ length inputs) ⊎ AreDrawn skips
-      → EndsAs (run_by r inputs skips) old new screen after (Refused (at_start NotYet))
+      → EndsAs (run_by r inputs skips) old new screen after ending
   run_turned r input [] skips t first why = absurd first
   run_turned r input (x ∷ []) (listed steps) t first (inl several) = absurd (omega arith)
   run_turned r input (x ∷ []) (listed steps) t first (inr are) = absurd are
@@ -42,17 +44,22 @@ module _ (old new : Files) (screen after : Screen) where
   run_turned r input (x ∷ y ∷ inputs) (drawn n) t first why = refused_of (run_by r (x ∷ y ∷ inputs) (drawn n)) input t first
 
   -- a command that is not handled yet ends as its work says
-  pub early_ends : (words : List (List ℕ)) (input : List ℕ) (m : Meaning) → IsEarly words input → IsTurnedAway input → Means words m → EndsAs (work_of m) old new screen after (Refused (at_start NotYet))
+  pub early_ends : (words : List (List ℕ)) (input : List ℕ) (m : Meaning) → IsEarly words input → IsTurnedAway input → Means words m → EndsAs (work_of m) old new screen after ending
   early_ends words input m (inl h) t k =
-      meant words (harden (h.0 ∷ h.1 ∷ h.2)) m (λ (m : Meaning). EndsAs (work_of m) old new screen after (Refused (at_start NotYet))) h.3 k
+      meant words (harden (h.0 ∷ h.1 ∷ h.2)) m (λ (m : Meaning). EndsAs (work_of m) old new screen after ending) h.3 k
       (refused_of (work_of (harden (h.0 ∷ h.1 ∷ h.2))) input t h.4)
   early_ends words input m (inr (inl h)) t k =
-      meant words (link h.0) m (λ (m : Meaning). EndsAs (work_of m) old new screen after (Refused (at_start NotYet))) h.1 k
+      meant words (link h.0) m (λ (m : Meaning). EndsAs (work_of m) old new screen after ending) h.1 k
       (link_turned h.0 input h.0.inputs t h.2 h.3)
   early_ends words input m (inr (inr h)) t k =
-      meant words (run h.0) m (λ (m : Meaning). EndsAs (work_of m) old new screen after (Refused (at_start NotYet))) h.1 k
+      meant words (run h.0) m (λ (m : Meaning). EndsAs (work_of m) old new screen after ending) h.1 k
       (run_turned h.0 input h.0.inputs h.0.skips t h.2 h.3)
 
+-- A refusal is no misuse.
+pub turned_not_misused : (name : List ℕ) (spot : Spot) (screen after : Screen) (ending : Ending) → IsTurnedAwayAs name spot screen after ending → ending ≡ Usage → ⊥
+turned_not_misused name spot screen after ending h e = subst (λ (x : Ending). IsTurnedAwayAs name spot screen after x) e h
+
+module _ (old new : Files) (screen after : Screen) where
   run_wants : (r : RunWords) (input steps : List ℕ) (inputs : List (List ℕ)) (skips : Skips) → inputs ≡ input ∷ [] → skips ≡ listed steps → Untouched old new × IsToldOf no_memory_line screen after
       → EndsAs (run_by r inputs skips) old new screen after NoMemory
   run_wants r input steps [] skips e f h = absurd (cc)

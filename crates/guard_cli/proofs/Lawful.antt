@@ -6,7 +6,7 @@ use Rattle.thumb_table.specs.declared.placements.Placement.{Placement}
 use Rattle.skip_machine.specs.declared.machines.Outcome.{Outcome}
 use Rattle.skip_machine.specs.declared.machines.Outcome.TheVariants.{Returned}
 use Rattle.guard_cli.specs.FirstForm.{IsFirstObject}
-use Rattle.guard_cli.specs.Words.{Pair, LinkWords, RunWords, Skips, listed, drawn}
+use Rattle.guard_words.specs.Words.{Pair, LinkWords, RunWords, Skips, listed, drawn}
 use Rattle.guard_cli.specs.Moments.{Files}
 use Rattle.guard_cli.specs.Works.{Save, AreLoaded, not_yet}
 use Rattle.guard_cli.specs.Endings.{AreSaved}
@@ -14,7 +14,8 @@ use Rattle.guard_cli.specs.HardenWork.{IsHardenMade, IsHardenPromised, harden_wo
 use Rattle.guard_cli.specs.LinkWork.{link_work}
 use Rattle.guard_cli.specs.ListWork.{list_work}
 use Rattle.guard_cli.specs.MachineRuns.{Call, call_of, run_work}
-use Rattle.guard_cli.specs.Meanings.{Meaning, harden, link, run, list, link_by, run_by, work_of}
+use Rattle.guard_words.specs.Meanings.{Meaning, harden, link, run, list}
+use Rattle.guard_cli.specs.Meant.{link_by, run_by, work_of}
 use Rattle.guard_cli.proofs.Accepted.{image_is_accepted, readable_is_accepted}
 use Rattle.guard_cli.proofs.Answered.{IsLawful, handled_is_accepted}
 use Rattle.guard_cli.proofs.Carried.{KeepsItsPromise, loaded_whole}

@@ -5,7 +5,7 @@ use Rattle.elf_model.specs.Objects.{ObjectParts}
 use Rattle.elf_model.specs.Canonical.{canonical}
 use Rattle.elf_model.specs.Files.{StandsFor}
 use Rattle.guard_cli.specs.FirstForm.{IsFirstCode, first_object}
-use Rattle.guard_cli.specs.Words.{Pair}
+use Rattle.guard_words.specs.Words.{Pair}
 use Rattle.guard_cli.specs.Output.{hardened_object}
 use Rattle.guard_cli.specs.Hardened.{Hardened}
 use Rattle.guard_cli.specs.Promise.{ArePlaced, IsPick, AreHardened}

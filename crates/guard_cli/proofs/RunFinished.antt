@@ -1,5 +1,5 @@
 -- What a machine's run says of the call that was started.
-use Rattle.std.proofs.Common.{◌≡◌, ℕ, Bool, true, List, subst, ◌∙◌, arith}
+use Rattle.std.proofs.Common.{◌≡◌, ℕ, Bool, true, subst, arith}
 use Rattle.std.specs.Prelude.{◌↔◌}
 use Rattle.thumb_table.specs.Parts.{CodeBytes}
 use Rattle.thumb_table.specs.States.{State}

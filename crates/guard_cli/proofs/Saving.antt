@@ -1,12 +1,12 @@
 -- How outputs are saved, one behind another, and what is known of the counts meanwhile.
-use Rattle.std.proofs.Common.{◌≡◌, ◌≤◌, ◌+◌, ◌-◌, ◌^◌, ℕ, List, [], ◌∷◌, ◌++◌, length, get_or, take, drop, Result, Ok, Err, IsTrue, refl, sym, ap, ◌∙◌, subst, arith, min}
+use Rattle.std.proofs.Common.{◌≡◌, ◌≤◌, ◌+◌, ◌-◌, ◌^◌, inl, inr, ℕ, List, [], ◌∷◌, ◌++◌, length, get_or, take, drop, Result, Ok, Err, IsTrue, refl, sym, ap, ◌∙◌, subst, arith, min}
 use Rattle.std.specs.Prelude.{IfErr}
 use Rattle.std.proofs.lemmas.List.{take_all}
-use Rattle.guard_io.specs.Outside.{Rose}
+use Rattle.guard_io.specs.Outside.{Rose, IsPartlyPut}
 use Rattle.guard_cli.specs.declared.endings.Ending.{Ending}
 use Rattle.guard_cli.specs.declared.endings.Ending.TheVariants.{Done, Refused, Usage, ReadFault, WriteFault, PrintFault, NoMemory, Stopped}
-use Rattle.guard_cli.specs.declared.tasks.Output.{Output}
-use Rattle.guard_cli.specs.Moments.{Files, Screen, IsSaved, IsHalfSaved, IsHandedOn, IsToldOf}
+use Rattle.guard_cli.specs.declared.outputs.Output.{Output}
+use Rattle.guard_cli.specs.Moments.{Files, Screen, IsSaved, IsHalfSaved, IsHandedOn, IsLeftOut, IsToldOf}
 use Rattle.guard_cli.specs.Texts.{write_fault_line}
 use Rattle.guard_cli.specs.Works.{Save}
 use Rattle.guard_cli.specs.Endings.{AreSaved, IsUnsaved, FinishesAs}
@@ -17,6 +17,20 @@ pub rose_before : (a b c : ℕ) → a ≤ b → Rose b c → Rose a c
 rose_before a b c low rose =
     let l : min (a + 1) (2 ^ 64 - 1) ≤ min (b + 1) (2 ^ 64 - 1) = omega arith in
     omega arith
+
+-- A line is told as well where the output had no memory for another before it.
+pub told_behind : (text : List ℕ) (old mid new : Screen) → IsLeftOut old mid → mid.told ≡ old.told → mid.faults ≡ old.faults → old.wants ≤ mid.wants → (IsTrue old.steady → IsTrue mid.steady)
+    → IsToldOf text mid new → IsToldOf text old new
+told_behind text old mid new out told faults up steady (inl put) = inl (λ t. put (told ∙ t) ∙ ap (λ (w : List ℕ). w ++ text) (out.nothing t))
+told_behind text old mid new out told faults up steady (inr (inl cut)) = inr (inl (record {
+  cause = subst (λ (n : ℕ). Rose n new.faults) faults cut.cause;
+  unsteady = λ s. cut.unsteady (steady s);
+  part = λ t. subst (λ (w : List ℕ). IsPartlyPut w text new.written) (out.nothing t) (cut.part (told ∙ t));
+}))
+told_behind text old mid new out told faults up steady (inr (inr left)) = inr (inr (record {
+  cause = rose_before old.wants mid.wants new.wants up left.cause;
+  nothing = λ t. left.nothing (told ∙ t) ∙ out.nothing t;
+}))
 
 -- the first of the outputs was saved, and the rest failed
 pub fails_behind : (s : Save) (saves : List Save) (old between new : Files) (screen after : Screen) (ending : Ending) → IsSaved s.name s.bytes old between → IsHandedOn old between screen screen

@@ -16,12 +16,17 @@ pub record IsMisused (old new : Files) (screen after : Screen) : Type 0 where
   pub loads : new.load_faults ≡ old.load_faults
   pub said : IsToldOf usage_line screen after
 
+-- What a refusal of this input comes to: it is said, or there is no memory to say it.
+abbrev pub IsTurnedAwayAs : List ℕ → Spot → Screen → Screen → Ending → Type 0
+IsTurnedAwayAs name spot screen after (Refused told) = (told ≡ spot) × IsToldOf (refused_line name spot) screen after
+IsTurnedAwayAs name spot screen after NoMemory = IsToldOf no_memory_line screen after
+IsTurnedAwayAs name spot screen after _ = ⊥
+
 -- A command that is refused at once touches nothing, and loads nothing. Its first input is named.
 pub record IsRefusedAtOnce (w : Work) (spot : Spot) (old new : Files) (screen after : Screen) (ending : Ending) : Type 0 where
-  pub ending_is : ending ≡ Refused spot
   pub untouched : Untouched old new
   pub loads : new.load_faults ≡ old.load_faults
-  pub said : IsToldOf (refused_line (input_named w.inputs spot.file) spot) screen after
+  pub turned : IsTurnedAwayAs (input_named w.inputs spot.file) spot screen after ending
 
 -- The outputs were saved whole, one behind another.
 abbrev pub AreSaved : List Save → Files → Files → Type 0

@@ -5,7 +5,7 @@ use Rattle.elf_model.specs.declared.refusals.TheConstants.Limit.{INPUT}
 use Rattle.elf_model.specs.Canonical.{canonical}
 use Rattle.elf_read.specs.Faults.{dropped_count}
 use Rattle.guard_cli.specs.FirstForm.{IsFirstCode, IsFirstObject, first_object}
-use Rattle.guard_cli.specs.Words.{Pair}
+use Rattle.guard_words.specs.Words.{Pair}
 use Rattle.guard_cli.specs.Inputs.{IsReadAs, IsHandled, IsInputRefusal}
 use Rattle.guard_cli.specs.Output.{hardened_object}
 use Rattle.guard_cli.specs.Promise.{IsPick, AreHardened}

@@ -1,6 +1,5 @@
 pub mod FirstForm
 pub mod FirstCode
-pub mod Words
 pub mod Output
 pub mod Texts
 pub mod Inputs
@@ -12,13 +11,9 @@ pub mod Linkable
 pub mod LinkWork
 pub mod MachineRuns
 pub mod Steps
-pub mod Meanings
-pub mod Commands
+pub mod Meant
 pub mod Statuses
 pub mod AddressMaps
 pub mod Hardened
 pub mod Promise
-pub mod Arranged
-pub mod Listings
 pub mod ListWork
-pub mod ListingSteps

@@ -9,7 +9,7 @@ use Rattle.thumb_table.specs.declared.placements.Placement.{Placement}
 use Rattle.thumb_table.specs.Parts.{Image}
 use Rattle.thumb_table.specs.Images.{IsImage, is_data, image_bytes}
 use Rattle.thumb_table.specs.LinkFaults.{IsLinkRefusal}
-use Rattle.guard_cli.specs.Words.{Pair}
+use Rattle.guard_words.specs.Words.{Pair}
 use Rattle.guard_cli.specs.Inputs.{IsTaken, IsInputRefusal}
 use Rattle.guard_cli.specs.Linkable.{IsLinkable}
 use Rattle.guard_cli.specs.Texts.{link_line}

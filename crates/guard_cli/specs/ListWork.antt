@@ -7,7 +7,7 @@ use Rattle.elf_model.specs.Objects.{ObjectParts}
 use Rattle.elf_read.specs.Faults.{IsFirstFault}
 use Rattle.guard_cli.specs.FirstForm.{at_start}
 use Rattle.guard_cli.specs.Inputs.{IsReadAs}
-use Rattle.guard_cli.specs.Listings.{IsListing}
+use Rattle.listing.specs.Listings.{IsListing}
 use Rattle.guard_cli.specs.Works.{Save, Work, OfOne}
 
 -- When an input is refused: it is longer than the limit, or else it has a fault, of which the first counts. No form is

@@ -1,11 +1,10 @@
 -- The work of `run`: which runs there are, and what is said of them.
-use Rattle.std.specs.Prelude.{◌≡◌, ◌≢◌, ◌↔◌, ◌<◌, ◌≤◌, ◌⊎◌, ℕ, Bool, true, List, [], ◌∷◌, Some, None, Ok, Err, ⊤}
+use Rattle.std.specs.Prelude.{◌≡◌, ◌↔◌, ◌⊎◌, ℕ, Bool, true, List, [], ◌∷◌, Some, None, ⊤}
 use Rattle.elf_model.specs.declared.refusals.Refusal.TheVariants.{NoEntry}
 use Rattle.elf_model.specs.declared.refusals.Spot.{Spot}
 use Rattle.elf_model.specs.declared.refusals.TheConstants.Limit.{ANY}
 use Rattle.elf_model.specs.Objects.{ObjectParts}
 use Rattle.thumb_table.specs.declared.placements.Placement.{Placement}
-use Rattle.thumb_table.specs.declared.faults.FaultKind.{FaultKind}
 use Rattle.thumb_table.specs.Parts.{Image}
 use Rattle.thumb_table.specs.States.{State, read}
 use Rattle.thumb_table.specs.Schedules.{is_in, ReturnsWithin, OrdinaryRun}
@@ -16,7 +15,7 @@ use Rattle.skip_machine.specs.declared.machines.Outcome.TheVariants.{Returned, F
 use Rattle.skip_machine.specs.Runs.{RunEnds}
 use Rattle.std.specs.Option.{option_to_list}
 use Rattle.guard_cli.specs.FirstForm.{at_start}
-use Rattle.guard_cli.specs.Words.{RunWords}
+use Rattle.guard_words.specs.Words.{RunWords}
 use Rattle.guard_cli.specs.Texts.{returned_line, stopped_line, unfinished_line}
 use Rattle.guard_cli.specs.LinkWork.{IsOf, IsLinkInputRefusal}
 use Rattle.guard_cli.specs.Works.{Work, OfOne}

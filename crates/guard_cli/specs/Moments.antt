@@ -1,5 +1,5 @@
 -- What is known of the files and of the output at a moment, and what changes between two moments.
-use Rattle.std.specs.Prelude.{◌≡◌, ◌≢◌, ◌≤◌, ◌⊎◌, ℕ, Bool, List, [], ◌++◌, Option, Some, IsTrue}
+use Rattle.std.specs.Prelude.{◌≡◌, ◌≢◌, ◌≤◌, ◌⊎◌, ℕ, Bool, List, ◌++◌, Option, Some, IsTrue}
 use Rattle.guard_io.specs.Outside.{Rose, IsPartlySaved, IsPartlyPut}
 
 pub record Files : Type 0 where
@@ -14,14 +14,15 @@ pub record Screen : Type 0 where
   pub written : List ℕ
   pub steady : Bool
   pub faults : ℕ
+  pub wants : ℕ
 
 -- from a shelf's and a sink's own words
 abbrev pub files_seen : {S : Type 0} → (S → Bool) → (S → List ℕ → Option (List ℕ)) → (S → Bool) → (S → ℕ) → (S → ℕ) → S → Files
 files_seen tells file steady load_faults save_faults s =
     record { told = tells s; content = file s; steady = steady s; load_faults = load_faults s; save_faults = save_faults s }
 
-abbrev pub screen_seen : {K : Type 0} → (K → Bool) → (K → List ℕ) → (K → Bool) → (K → ℕ) → K → Screen
-screen_seen tells written steady faults k = record { told = tells k; written = written k; steady = steady k; faults = faults k }
+abbrev pub screen_seen : {K : Type 0} → (K → Bool) → (K → List ℕ) → (K → Bool) → (K → ℕ) → (K → ℕ) → K → Screen
+screen_seen tells written steady faults wants k = record { told = tells k; written = written k; steady = steady k; faults = faults k; wants = wants k }
 
 -- Each file but this one is as it was.
 pub record SameBut (name : List ℕ) (old new : Files) : Type 0 where
@@ -54,15 +55,21 @@ pub record IsCutOff (text : List ℕ) (old new : Screen) : Type 0 where
   pub unsteady : IsTrue old.steady → ⊥
   pub part : IsTrue old.told → IsPartlyPut old.written text new.written
 
--- An ending's line: put, or cut off by a fault of the output, or left out for want of memory.
-abbrev pub IsToldOf : List ℕ → Screen → Screen → Type 0
-IsToldOf text old new = IsPut text old new ⊎ IsCutOff text old new ⊎ IsPut [] old new
+-- Nothing was put, since the output had no memory.
+pub record IsLeftOut (old new : Screen) : Type 0 where
+  pub cause : Rose old.wants new.wants
+  pub nothing : IsTrue old.told → new.written ≡ old.written
 
--- Counts of faults never fall, and what is steady stays so.
+-- An ending's line: it was put, unless a count of the output says why only a part of it was, or nothing.
+abbrev pub IsToldOf : List ℕ → Screen → Screen → Type 0
+IsToldOf text old new = IsPut text old new ⊎ IsCutOff text old new ⊎ IsLeftOut old new
+
+-- Counts never fall, and what is steady stays so.
 pub record IsHandedOn (old new : Files) (screen after : Screen) : Type 0 where
   pub loads : old.load_faults ≤ new.load_faults
   pub saves : old.save_faults ≤ new.save_faults
   pub puts : screen.faults ≤ after.faults
+  pub wants : screen.wants ≤ after.wants
   pub steady_files : IsTrue old.steady → IsTrue new.steady
   pub steady_screen : IsTrue screen.steady → IsTrue after.steady
 

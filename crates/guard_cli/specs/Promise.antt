@@ -3,7 +3,7 @@ use Rattle.std.specs.Prelude.{◌≡◌, ◌≢◌, ℕ, List, [], ◌∷◌, ma
 use Rattle.std.specs.List.{AllPairs}
 use Rattle.elf_model.specs.Objects.{ObjectParts}
 use Rattle.elf_model.specs.Files.{StandsFor}
-use Rattle.guard_cli.specs.Words.{Pair}
+use Rattle.guard_words.specs.Words.{Pair}
 use Rattle.guard_cli.specs.Hardened.{Hardened}
 
 -- the objects that the files of these names stand for, in order

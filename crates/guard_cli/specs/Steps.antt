@@ -11,40 +11,27 @@ use Rattle.skip_machine.specs.declared.machines.Outcome.TheVariants.{Returned}
 use Rattle.skip_machine.specs.Runs.{RunEnds}
 use Rattle.guard_cli.specs.declared.endings.Ending.{Ending}
 use Rattle.guard_cli.specs.declared.endings.Ending.TheVariants.{Done, ReadFault, WriteFault, PrintFault, NoMemory, Stopped}
-use Rattle.guard_cli.specs.declared.tasks.LinkCommand.{LinkCommand}
 use Rattle.guard_cli.specs.declared.tasks.Made.{Made}
-use Rattle.guard_cli.specs.declared.tasks.Output.{Output}
-use Rattle.guard_cli.specs.declared.tasks.RunCommand.{RunCommand}
-use Rattle.guard_cli.specs.declared.tasks.Task.{Task}
-use Rattle.guard_cli.specs.declared.tasks.Task.TheVariants as task
+use Rattle.guard_cli.specs.declared.outputs.Output.{Output}
+use Rattle.guard_words.specs.declared.tasks.RunCommand.{RunCommand}
+use Rattle.guard_words.specs.declared.tasks.Task.{Task}
+use Rattle.guard_words.specs.declared.tasks.Task.TheVariants as task
 use Rattle.guard_cli.specs.declared.run.Finished.{Finished}
 use Rattle.guard_cli.specs.declared.texts.Counts.{Counts}
-use Rattle.guard_cli.specs.Words.{LinkWords, RunWords, listed}
+use Rattle.guard_words.specs.Tasks.{meaning_by}
 use Rattle.guard_cli.specs.Texts.{Tally, no_memory_line, read_fault_line}
 use Rattle.guard_cli.specs.Moments.{Files, Screen, Untouched, IsPut, IsCutOff, IsToldOf}
 use Rattle.guard_cli.specs.Works.{Save, Work}
 use Rattle.guard_cli.specs.Endings.{FinishesAs, IsUnsaved, IsPartlyDone}
 use Rattle.guard_cli.specs.MachineRuns.{Call}
-use Rattle.guard_cli.specs.Meanings.{Meaning, harden, link, run, list, work_of}
+use Rattle.guard_cli.specs.Meant.{work_of}
 use Rattle.guard_io.specs.Outside.{Rose}
-
-abbrev pub link_words : LinkCommand → LinkWords
-link_words c = record { at = c.at; output = c.output.now; inputs = c.input.now ∷ [] }
-
-abbrev pub run_words : RunCommand → RunWords
-run_words c = record { at = c.at; entry = c.entry.now; argument = c.argument; steps = c.steps; skips = listed c.plan; inputs = c.input.now ∷ [] }
 
 -- the run that a command names
 abbrev pub call_by : RunCommand → Call
 call_by c = record { at = c.at; input = c.input.now; entry = c.entry.now; arguments = option_to_list c.argument; steps = c.steps; schedule = c.plan }
 
--- what the words of a command mean that is carried out, and its work
-abbrev pub meaning_by : Task → Meaning
-meaning_by (task.Harden input output) = harden (record { input = input.now; output = output.now } ∷ [])
-meaning_by (task.Link c) = link (link_words c)
-meaning_by (task.Run c) = run (run_words c)
-meaning_by (task.List input) = list input.now
-
+-- the work of a command that is carried out
 abbrev pub work_by : Task → Work
 work_by t = work_of (meaning_by t)
 

@@ -6,12 +6,12 @@ ghost use Rattle.guard_cli.specs.Endings.{EndsAs};
 ghost use Rattle.guard_cli.specs.Steps.{input_by, work_by, IsSound};
 
 use crate::Ending;
-use crate::finishing::{finish, tell, tell_made};
+use crate::finishing::{finish, give_up, turn_away};
 use crate::loading::load_input;
-use crate::tasks::{Task, decide, input_of, most_of};
-use crate::texts::{no_memory_text, refused_text};
+use crate::tasks::{decide, input_of, most_of};
 use elf_model::Deny;
 use guard_io::{Shelf, Sink};
+use guard_words::Task;
 use std::alloc::Global;
 
 /// Carries out a command. All is decided before anything is saved.
@@ -23,13 +23,13 @@ pub(crate) fn carry_out<S: Shelf, K: Sink>(
 ) -> Ending
     requires { IsSound task.now }
     ensures ends { let files = files_seen S.tells S.file S.steady S.load_faults S.save_faults in
-        let screen = screen_seen K.tells K.written K.steady K.faults in
+        let screen = screen_seen K.tells K.written K.steady K.faults K.wants in
         EndsAs (work_by task.now) (files shelf.old) (files shelf.new) (screen out.old) (screen out.new) result }
     ensures handed_on { let files = files_seen S.tells S.file S.steady S.load_faults S.save_faults in
-        let screen = screen_seen K.tells K.written K.steady K.faults in
+        let screen = screen_seen K.tells K.written K.steady K.faults K.wants in
         IsHandedOn (files shelf.old) (files shelf.new) (screen out.old) (screen out.new) }
     ensures calm { let files = files_seen S.tells S.file S.steady S.load_faults S.save_faults in
-        let screen = screen_seen K.tells K.written K.steady K.faults in
+        let screen = screen_seen K.tells K.written K.steady K.faults K.wants in
         IsTrue (S.steady shelf.old) → IsTrue (K.steady out.old) → IsSome (S.file shelf.old (input_by task.now)) →
         CountsStay (files shelf.old) (files shelf.new) (screen out.old) (screen out.new) }
 {
@@ -39,14 +39,8 @@ pub(crate) fn carry_out<S: Shelf, K: Sink>(
         Err(ending) => return ending,
     };
     match decide(alloc, task, &bytes) {
-        Ok(made) => finish(alloc, &made, shelf, out),
-        Err(Deny::Refused(spot)) => {
-            tell_made(out, refused_text(alloc, input, &spot));
-            Ending::Refused(spot)
-        }
-        Err(Deny::NoMemory) => {
-            tell(out, no_memory_text().as_bytes());
-            Ending::NoMemory
-        }
+        Ok(made) => finish(&made, shelf, out),
+        Err(Deny::Refused(spot)) => turn_away(alloc, input, spot, out),
+        Err(Deny::NoMemory) => give_up(out),
     }
 }

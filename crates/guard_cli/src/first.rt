@@ -4,7 +4,11 @@ ghost use Rattle.std.specs.Prelude.{◌≡◌, ◌↔◌, IsTrue, IsSome, IfSome
 ghost use Rattle.guard_cli.specs.FirstForm.{IsFirstObject};
 ghost use Rattle.guard_cli.specs.FirstCode.{IsFirstBytes, IsFirstWith, are_moves, is_first_code, is_text, is_at_text, is_code_symbol, is_function_symbol, are_symbols, has_first_rest};
 
+use elf_model::numbers::{FUNC, LOCAL, NOTYPE, PROGBITS};
 use elf_model::{Home, Object, Section, Symbol};
+
+/// The binding of a global symbol.
+pub(crate) const GLOBAL: u8 = 1;
 
 /// The bytes of `bx lr`, which returns.
 const RETURN: [u8; 2] = [0x70, 0x47];
@@ -59,7 +63,7 @@ pub(crate) fn is_text(section: &Section) -> bool
     ensures { result ≡ is_text section.now }
 {
     section.name.bytes() == b".text".as_slice()
-        && section.kind == 1
+        && section.kind == PROGBITS
         && section.flags == 6
         && section.align == 4
         && section.entry == 0
@@ -92,8 +96,8 @@ pub(crate) fn is_code_symbol(symbol: &Symbol) -> bool
     symbol.name.bytes() == b"$t".as_slice()
         && symbol.value == 0
         && symbol.size == 0
-        && symbol.bind == 0
-        && symbol.kind == 0
+        && symbol.bind == LOCAL
+        && symbol.kind == NOTYPE
         && symbol.other == 0
         && is_at_text(symbol.home)
 }
@@ -105,8 +109,8 @@ pub(crate) fn is_function_symbol(symbol: &Symbol, size: u32) -> bool
     symbol.name.bytes() == b"f".as_slice()
         && symbol.value == 1
         && symbol.size == size
-        && symbol.bind == 1
-        && symbol.kind == 2
+        && symbol.bind == GLOBAL
+        && symbol.kind == FUNC
         && symbol.other == 0
         && is_at_text(symbol.home)
 }

@@ -6,6 +6,8 @@ ghost use Rattle.guard_cli.specs.FirstForm.{code_bytes, text_section, code_symbo
 ghost use Rattle.guard_cli.specs.FirstCode.{IsFirstBytes};
 ghost use Rattle.guard_cli.specs.Output.{doubled, rows_from, hardened_object};
 
+use crate::first::GLOBAL;
+use elf_model::numbers::{FUNC, LOCAL, NOTYPE, PROGBITS};
 use elf_model::{Bytes, Home, MapRow, Name, Object, RowKind, Section, Symbol};
 use std::alloc::{AllocError, Global};
 
@@ -81,7 +83,7 @@ fn map_section(alloc: Global, rows: &[MapRow]) -> Result<Section, AllocError>
     }
     Ok(Section {
         name: Name::new(Vec::from_slice(alloc, b".skipguard.map")?),
-        kind: 1,
+        kind: PROGBITS,
         flags: 0,
         align: 4,
         entry: 16,
@@ -117,7 +119,7 @@ fn text_section(alloc: Global, bytes: Vec<u8>) -> Result<Section, AllocError>
 {
     Ok(Section {
         name: Name::new(Vec::from_slice(alloc, b".text")?),
-        kind: 1,
+        kind: PROGBITS,
         flags: 6,
         align: 4,
         entry: 0,
@@ -134,8 +136,8 @@ fn code_symbol(alloc: Global) -> Result<Symbol, AllocError>
         name: Name::new(Vec::from_slice(alloc, b"$t")?),
         value: 0,
         size: 0,
-        bind: 0,
-        kind: 0,
+        bind: LOCAL,
+        kind: NOTYPE,
         other: 0,
         home: Home::Section(0),
     })
@@ -149,8 +151,8 @@ fn function_symbol(alloc: Global, size: u32) -> Result<Symbol, AllocError>
         name: Name::new(Vec::from_slice(alloc, b"f")?),
         value: 1,
         size,
-        bind: 1,
-        kind: 2,
+        bind: GLOBAL,
+        kind: FUNC,
         other: 0,
         home: Home::Section(0),
     })

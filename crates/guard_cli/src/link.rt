@@ -1,7 +1,7 @@
 //! What `link` makes of an input.
 
 ghost use Rattle.std.specs.Prelude.{◌≡◌, ◌≤◌, ◌∷◌, [], length, IfOk, IfErr};
-ghost use Rattle.elf_model.specs.Objects.{is_alloc, is_code};
+ghost use Rattle.elf_model.specs.Objects.{is_code};
 ghost use Rattle.thumb_table.specs.Layouts.{IsPlacement};
 ghost use Rattle.thumb_table.specs.Images.{is_data};
 ghost use Rattle.guard_cli.specs.Inputs.{IsTurnedDown};
@@ -9,9 +9,10 @@ ghost use Rattle.guard_cli.specs.LinkWork.{bytes_of, IsLinkInputRefusal, link_wo
 ghost use Rattle.guard_cli.specs.Steps.{IsMadeBy};
 
 use crate::loading::{image_of, object_of};
-use crate::tasks::{LinkCommand, Made, saving};
+use crate::tasks::{Made, saving};
 use crate::texts::link_text;
-use elf_model::{Deny, Section};
+use elf_model::{Deny, Section, is_code, is_data};
+use guard_words::LinkCommand;
 use std::alloc::Global;
 
 /// The file of an input's image and the report on it, or why there is none.
@@ -51,21 +52,9 @@ fn data_bytes_of(sections: &[Section]) -> u64
 {
     let mut sum = 0;
     for section in sections {
-        if is_alloc(section) && !is_code(section) {
+        if is_data(section) {
             sum += section.size as u64;
         }
     }
     sum
-}
-
-fn is_alloc(section: &Section) -> bool
-    ensures { result ≡ is_alloc section.now.flags }
-{
-    section.flags / 2 % 2 == 1
-}
-
-fn is_code(section: &Section) -> bool
-    ensures { result ≡ is_code section.now }
-{
-    section.kind == 1 && is_alloc(section) && section.flags / 4 % 2 == 1
 }

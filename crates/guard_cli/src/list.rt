@@ -5,7 +5,6 @@ ghost use Rattle.guard_cli.specs.Inputs.{IsTurnedDown};
 ghost use Rattle.guard_cli.specs.ListWork.{IsListRefusal, list_work};
 ghost use Rattle.guard_cli.specs.Steps.{IsMadeBy};
 
-use crate::listings::listing;
 use crate::loading::at_start;
 use crate::tasks::{Made, saying};
 use elf_model::{Deny, Limit, Refusal};
@@ -21,6 +20,6 @@ pub(crate) fn decide(alloc: Global, bytes: &[u8]) -> Result<Made, Deny>
         return Err(Deny::Refused(at_start(Refusal::TooLong)));
     }
     let read = read_object(alloc, bytes, &Limit::ANY)?;
-    let text = listing(alloc, &read.object)?;
+    let text = listing::listing(alloc, &read.object)?;
     Ok(saying(alloc, text, None))
 }

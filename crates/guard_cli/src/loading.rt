@@ -13,9 +13,9 @@ ghost use Rattle.guard_cli.specs.Moments.{files_seen, screen_seen, IsHandedOn, C
 ghost use Rattle.guard_cli.specs.Steps.{LoadFailsAs};
 
 use crate::Ending;
-use crate::finishing::{tell, tell_made};
+use crate::finishing::{give_up, tell};
 use crate::linkable::is_linkable;
-use crate::texts::{no_memory_text, read_fault_text};
+use crate::texts::read_fault_text;
 use elf_model::{Deny, Limit, Object, Refusal, Spot};
 use elf_read::read_object;
 use flat_link::link;
@@ -35,26 +35,26 @@ pub(crate) fn load_input<S: Shelf, K: Sink>(
     ensures silent { OnOk result (out.new ≡ out.old) }
     ensures untouched { let files = files_seen S.tells S.file S.steady S.load_faults S.save_faults in Untouched (files shelf.old) (files shelf.new) }
     ensures failed { let files = files_seen S.tells S.file S.steady S.load_faults S.save_faults in
-        let screen = screen_seen K.tells K.written K.steady K.faults in
+        let screen = screen_seen K.tells K.written K.steady K.faults K.wants in
         IfErr result (LoadFailsAs input.now (files shelf.old) (files shelf.new) (screen out.old) (screen out.new)) }
     ensures handed_on { let files = files_seen S.tells S.file S.steady S.load_faults S.save_faults in
-        let screen = screen_seen K.tells K.written K.steady K.faults in
+        let screen = screen_seen K.tells K.written K.steady K.faults K.wants in
         IsHandedOn (files shelf.old) (files shelf.new) (screen out.old) (screen out.new) }
     ensures calm { let files = files_seen S.tells S.file S.steady S.load_faults S.save_faults in
-        let screen = screen_seen K.tells K.written K.steady K.faults in
+        let screen = screen_seen K.tells K.written K.steady K.faults K.wants in
         IsTrue (S.steady shelf.old) → IsTrue (K.steady out.old) → IsSome (S.file shelf.old input.now) →
         CountsStay (files shelf.old) (files shelf.new) (screen out.old) (screen out.new) }
 {
+    let Ok(fault) = read_fault_text(alloc, input) else {
+        return Err(give_up(out));
+    };
     match shelf.load(alloc, input, most) {
         Ok(bytes) => Ok(bytes),
         Err(LoadErr::Failed) => {
-            tell_made(out, read_fault_text(alloc, input));
+            tell(out, fault.as_bytes());
             Err(Ending::ReadFault)
         }
-        Err(LoadErr::Memory) => {
-            tell(out, no_memory_text().as_bytes());
-            Err(Ending::NoMemory)
-        }
+        Err(LoadErr::Memory) => Err(give_up(out)),
     }
 }
 

@@ -9,9 +9,10 @@ ghost use Rattle.guard_cli.specs.MachineRuns.{IsRunRefusal, run_line, run_work};
 ghost use Rattle.guard_cli.specs.Steps.{IsFinished, IsMadeBy, call_by, stopped_by};
 
 use crate::loading::{at_start, image_of, object_of};
-use crate::tasks::{Made, RunCommand, saying};
+use crate::tasks::{Made, saying};
 use crate::texts::{returned_text, stopped_text, unfinished_text};
 use elf_model::{Deny, Refusal};
+use guard_words::RunCommand;
 use skip_machine::{Machine, Outcome, Plan};
 use std::alloc::{AllocError, Global};
 use thumb_table::Image;

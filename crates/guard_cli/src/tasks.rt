@@ -4,50 +4,13 @@ ghost use Rattle.std.specs.Prelude.{◌≡◌, ◌+◌, IfOk, IfErr, [], ◌∷�
 ghost use Rattle.guard_cli.specs.Inputs.{IsTurnedDown};
 ghost use Rattle.guard_cli.specs.Steps.{input_by, limit_by, work_by, IsSound, IsMadeBy, IsSaving, IsSaying};
 
+use crate::outputs::Output;
+use crate::texts::write_fault_text;
 use crate::{harden, link, list, run};
 use elf_model::{Deny, Limit};
-use skip_machine::{Outcome, Plan};
+use guard_words::Task;
+use skip_machine::Outcome;
 use std::alloc::{AllocError, Global};
-use thumb_table::Placement;
-
-/// A command with its parameters.
-#[derive(Debug, Drop)]
-pub(crate) enum Task<'a> {
-    /// `harden` with one pair of files.
-    Harden { input: &'a str, output: &'a str },
-    /// `link` with one input.
-    Link(LinkCommand<'a>),
-    /// `run` with one input and the steps that are skipped.
-    Run(RunCommand<'a>),
-    /// `list`.
-    List { input: &'a str },
-}
-
-/// What is linked, where it is placed, and the file that takes the image.
-#[derive(Clone, Copy, Debug)]
-pub(crate) struct LinkCommand<'a> {
-    pub at: Placement,
-    pub output: &'a str,
-    pub input: &'a str,
-}
-
-/// What is run, and how: from the function `entry`, with `argument` in r0, for at most `steps` steps.
-#[derive(Debug, Drop)]
-pub(crate) struct RunCommand<'a> {
-    pub at: Placement,
-    pub entry: &'a str,
-    pub argument: Option<u32>,
-    pub steps: u64,
-    pub plan: Plan,
-    pub input: &'a str,
-}
-
-/// A file that is to be saved.
-#[derive(Debug, Drop)]
-pub(crate) struct Output {
-    pub name: String,
-    pub bytes: Vec<u8>,
-}
 
 /// What is made of an input: the outputs in the order in which they are saved, what is said, and how a
 /// run ended that did not return.
@@ -68,8 +31,9 @@ pub(crate) fn saving(
     ensures { IfOk result (IsSaving name.now bytes.items (string_bytes report)) }
 {
     let mut outputs = Vec::new(alloc);
+    let fault = write_fault_text(alloc, name)?;
     let name = String::from_str(alloc, name)?;
-    outputs.push(Output { name, bytes })?;
+    outputs.push(Output { name, bytes, fault })?;
     Ok(Made {
         outputs,
         report: report.into_bytes(),

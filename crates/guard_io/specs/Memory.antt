@@ -85,10 +85,11 @@ pub record MemorySink : Type 0 where
   pub fail : List ℕ
   pub calls : ℕ
   pub faults : ℕ
+  pub wants : ℕ
 
 -- a sink before its first call
 abbrev pub new_sink : List ℕ → MemorySink
-new_sink fail = record { bytes = []; fail = fail; calls = 0; faults = 0 }
+new_sink fail = record { bytes = []; fail = fail; calls = 0; faults = 0; wants = 0 }
 
 -- whether no call is made to fail any more
 abbrev pub is_steady_sink : MemorySink → Bool
@@ -100,7 +101,7 @@ with_bytes s bytes = record s { bytes = s.bytes ++ bytes; calls = raised s.calls
 
 -- a sink after a put for which there was no memory
 abbrev pub with_put : MemorySink → MemorySink
-with_put s = record s { calls = raised s.calls }
+with_put s = record s { calls = raised s.calls; wants = raised s.wants }
 
 -- a sink after a put that failed
 abbrev pub with_put_fault : MemorySink → MemorySink

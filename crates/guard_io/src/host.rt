@@ -188,6 +188,9 @@ impl<W: Write> Sink for HostSink<W> {
 
     ghost faults = { λ s. s.faults };
 
+    // A put takes no memory.
+    ghost wants = { λ _. 0 };
+
     fn put(&mut self, bytes: &[u8]) -> Result<(), PutErr>
         ensures count { self.old.faults ≤ self.new.faults }
         ensures failed { result ≡ Err PutErr.Failed → Rose self.old.faults self.new.faults }

@@ -17,6 +17,7 @@ pub struct MemSink {
     fail: Vec<u64>,
     calls: u64,
     faults: u64,
+    wants: u64,
 }
 
 impl Model for MemSink {
@@ -29,6 +30,7 @@ impl Model for MemSink {
       fail = s.fail.items;
       calls = s.calls;
       faults = s.faults;
+      wants = s.wants;
     } };
 }
 
@@ -42,6 +44,7 @@ impl MemSink {
             fail,
             calls: 0,
             faults: 0,
+            wants: 0,
         }
     }
 
@@ -62,6 +65,8 @@ impl Sink for MemSink {
 
     ghost faults = { λ s. s.faults };
 
+    ghost wants = { λ s. s.wants };
+
     #[tactic(auto, using(crate::proofs::Calls::call_laws))]
     fn put(&mut self, bytes: &[u8]) -> Result<(), PutErr>
         ensures put { OnOk result (self.new.bytes ≡ self.old.bytes ++ bytes.now) }
@@ -71,6 +76,9 @@ impl Sink for MemSink {
         ensures failed { result ≡ Err PutErr.Failed → Rose self.old.faults self.new.faults }
         ensures memory { result ≡ Err PutErr.Memory → self.new.bytes ≡ self.old.bytes }
         ensures memory_count { result ≡ Err PutErr.Memory → self.new.faults ≡ self.old.faults }
+        ensures wants_count { self.old.wants ≤ self.new.wants }
+        ensures wanted { result ≡ Err PutErr.Memory → Rose self.old.wants self.new.wants }
+        ensures not_wanted { result ≢ Err PutErr.Memory → self.new.wants ≡ self.old.wants }
         ensures steady { IsTrue (is_steady_sink self.old) → IsTrue (is_steady_sink self.new) }
         ensures calm { IsTrue (is_steady_sink self.old) → result ≢ Err PutErr.Failed }
         ensures calm_count { IsTrue (is_steady_sink self.old) → self.new.faults ≡ self.old.faults }
@@ -90,7 +98,10 @@ impl Sink for MemSink {
         }
         match self.bytes.extend_from_slice(bytes) {
             Ok(()) => Ok(()),
-            Err(_) => Err(PutErr::Memory),
+            Err(_) => {
+                self.wants = raise(self.wants);
+                Err(PutErr::Memory)
+            }
         }
     }
 

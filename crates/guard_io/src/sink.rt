@@ -5,9 +5,9 @@ ghost use Rattle.guard_io.specs.Outside.{Rose, IsPartlyPut};
 
 use crate::PutErr;
 
-/// Output. A sink may tell what was put, and counts what fails outside the program. The count never
-/// falls, and stands still at 2^64 - 1. One that tells its bytes may be steady: then it stays so, and
-/// no call fails.
+/// Output. A sink may tell what was put, and counts what fails outside the program, and how often
+/// memory was wanting. No count ever falls, and each stands still at 2^64 - 1. One that tells its bytes
+/// may be steady: then it stays so, and no call fails, though memory may be wanting.
 pub trait Sink {
     /// Whether it tells its bytes.
     ghost tells: { Self → Bool };
@@ -21,6 +21,9 @@ pub trait Sink {
     /// How often a call has failed.
     ghost faults: { Self → ℕ };
 
+    /// How often a call has had no memory.
+    ghost wants: { Self → ℕ };
+
     /// Appends the bytes.
     fn put(&mut self, bytes: &[u8]) -> Result<(), PutErr>
         ensures told { tells self.new ≡ tells self.old }
@@ -30,6 +33,11 @@ pub trait Sink {
         ensures failed { result ≡ Err PutErr.Failed → Rose (faults self.old) (faults self.new) }
         ensures memory { result ≡ Err PutErr.Memory → IsTrue (tells self.old) → written self.new ≡ written self.old }
         ensures memory_count { result ≡ Err PutErr.Memory → faults self.new ≡ faults self.old }
+
+        // Memory is wanting exactly where that is counted.
+        ensures wants_count { wants self.old ≤ wants self.new }
+        ensures wanted { result ≡ Err PutErr.Memory → Rose (wants self.old) (wants self.new) }
+        ensures not_wanted { result ≢ Err PutErr.Memory → wants self.new ≡ wants self.old }
 
         // A steady sink stays steady, and does not fail.
         ensures steady { IsTrue (steady self.old) → IsTrue (steady self.new) }

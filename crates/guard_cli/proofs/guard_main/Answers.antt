@@ -1,15 +1,15 @@
 use Rattle.std.proofs.Common.{map, string_bytes, refl}
 use Rattle.std.specs.Prelude.{IsSome}
-use Rattle.guard_cli.specs.declared.endings.Ending.TheVariants.{Refused}
-use Rattle.guard_cli.specs.Texts.{refused_line}
 use Rattle.guard_cli.specs.Moments.{files_seen, screen_seen}
 use Rattle.guard_cli.specs.Endings.{EndsAs}
-use Rattle.guard_cli.specs.Meanings.{Meaning, work_of}
-use Rattle.guard_cli.specs.Steps.{meaning_by}
+use Rattle.guard_words.specs.Meanings.{Meaning}
+use Rattle.guard_cli.specs.Meant.{work_of}
+use Rattle.guard_words.specs.Tasks.{meaning_by}
 use Rattle.guard_cli.proofs.Answered.{ends_done}
-use Rattle.guard_cli.proofs.EarlyWords.{early_ends, early_means, wanting_ends, wanting_means}
+use Rattle.guard_cli.proofs.Carried.{untouched_here}
+use Rattle.guard_cli.proofs.EarlyWords.{early_ends, early_means, turned_not_misused, wanting_ends, wanting_means}
 use Rattle.guard_cli.proofs.Lawful.{work_is_lawful}
-use Rattle.guard_cli.proofs.Meanings.{meant}
+use Rattle.guard_words.proofs.Meanings.{meant}
 use Rattle.guard_cli.proofs.CarriedTasks.{sound_by, input_there, not_misused}
 use Rattle.guard_cli.proofs.guard_main.Goals as goal
 
@@ -30,34 +30,35 @@ pub returns-in-Unknown-clause-completes : goal.returns-in-Unknown-clause-complet
 returns-in-Unknown-clause-completes g c = λ m loaded h told has accepts calm. absurd (c.in-Unknown.ensures (m, h))
 
 pub returns-in-Early-clause-usage : goal.returns-in-Early-clause-usage
-returns-in-Early-clause-usage g c = (λ e m h. absurd (cc), λ none. let e = early_means (map string_bytes c.args.words.now) c.in-Early.input.now c.in-Early.ensures in absurd (none e.0 e.1))
+returns-in-Early-clause-usage g c =
+    let screen = screen_seen g.K.Sink.tells g.K.Sink.written g.K.Sink.steady g.K.Sink.faults g.K.Sink.wants in (
+      λ e. absurd (turned_not_misused c.in-Early.input.now c.at_start.result (screen c.args.out.now) (screen c.turn_away.new.out) c.turn_away.result c.turn_away.ensures.ending e),
+      λ none. let e = early_means (map string_bytes c.args.words.now) c.in-Early.input.now c.in-Early.ensures in absurd (none e.0 e.1),
+    )
+
+pub returns-in-Early-clause-misused : goal.returns-in-Early-clause-misused
+returns-in-Early-clause-misused g c =
+    let screen = screen_seen g.K.Sink.tells g.K.Sink.written g.K.Sink.steady g.K.Sink.faults g.K.Sink.wants in
+    λ e. absurd (turned_not_misused c.in-Early.input.now c.at_start.result (screen c.args.out.now) (screen c.turn_away.new.out) c.turn_away.result c.turn_away.ensures.ending e)
 
 pub returns-in-Early-clause-ends : goal.returns-in-Early-clause-ends
 returns-in-Early-clause-ends g c = λ m means.
     let files = files_seen g.S.Shelf.tells g.S.Shelf.file g.S.Shelf.steady g.S.Shelf.load_faults g.S.Shelf.save_faults in
-    let screen = screen_seen g.K.Sink.tells g.K.Sink.written g.K.Sink.steady g.K.Sink.faults in
+    let screen = screen_seen g.K.Sink.tells g.K.Sink.written g.K.Sink.steady g.K.Sink.faults g.K.Sink.wants in
     let input = c.in-Early.input.now in
-    rw c.at_start-spot.ensures
-    (early_ends (files c.args.shelf.now) (files c.args.shelf.now) (screen c.args.out.now) (screen c.tell_made.new.out) (map string_bytes c.args.words.now) input m c.in-Early.ensures
-    (record {
-      untouched = record { told = refl; each = λ name. refl; saves = refl };
-      loads = refl;
-      said = rw c.at_start-spot.ensures at (c.tell_made.ensures.told (refused_line input c.at_start-spot.result) c.refused_text.ensures);
-    }) means)
+    let here = files c.args.shelf.now in
+    early_ends here here (screen c.args.out.now) (screen c.turn_away.new.out) c.turn_away.result (map string_bytes c.args.words.now) input m c.in-Early.ensures
+    (record { untouched = untouched_here here; loads = refl; turned = rw c.at_start.ensures at c.turn_away.ensures.ending }) means
 
 pub returns-in-Early-clause-completes : goal.returns-in-Early-clause-completes
 returns-in-Early-clause-completes g c = λ m loaded means told has accepts calm.
     let files = files_seen g.S.Shelf.tells g.S.Shelf.file g.S.Shelf.steady g.S.Shelf.load_faults g.S.Shelf.save_faults in
-    let screen = screen_seen g.K.Sink.tells g.K.Sink.written g.K.Sink.steady g.K.Sink.faults in
+    let screen = screen_seen g.K.Sink.tells g.K.Sink.written g.K.Sink.steady g.K.Sink.faults g.K.Sink.wants in
     let input = c.in-Early.input.now in
-    ends_done (work_of m) (work_is_lawful m) (files c.args.shelf.now) (files c.args.shelf.now) (screen c.args.out.now) (screen c.tell_made.new.out) loaded told has accepts calm (Refused c.at_start-spot.result)
-    (rw c.at_start-spot.ensures
-    (early_ends (files c.args.shelf.now) (files c.args.shelf.now) (screen c.args.out.now) (screen c.tell_made.new.out) (map string_bytes c.args.words.now) input m c.in-Early.ensures
-    (record {
-      untouched = record { told = refl; each = λ name. refl; saves = refl };
-      loads = refl;
-      said = rw c.at_start-spot.ensures at (c.tell_made.ensures.told (refused_line input c.at_start-spot.result) c.refused_text.ensures);
-    }) means))
+    let here = files c.args.shelf.now in
+    ends_done (work_of m) (work_is_lawful m) here here (screen c.args.out.now) (screen c.turn_away.new.out) loaded told has accepts calm c.turn_away.result
+    (early_ends here here (screen c.args.out.now) (screen c.turn_away.new.out) c.turn_away.result (map string_bytes c.args.words.now) input m c.in-Early.ensures
+    (record { untouched = untouched_here here; loads = refl; turned = rw c.at_start.ensures at c.turn_away.ensures.ending }) means)
 
 pub carry_out-requires : goal.carry_out-requires
 carry_out-requires g c = sound_by (map string_bytes c.args.words.now) c.in-Task.task c.in-Task.ensures
@@ -65,7 +66,7 @@ carry_out-requires g c = sound_by (map string_bytes c.args.words.now) c.in-Task.
 pub returns-in-Task-clause-usage : goal.returns-in-Task-clause-usage
 returns-in-Task-clause-usage g c =
     let files = files_seen g.S.Shelf.tells g.S.Shelf.file g.S.Shelf.steady g.S.Shelf.load_faults g.S.Shelf.save_faults in
-    let screen = screen_seen g.K.Sink.tells g.K.Sink.written g.K.Sink.steady g.K.Sink.faults in (
+    let screen = screen_seen g.K.Sink.tells g.K.Sink.written g.K.Sink.steady g.K.Sink.faults g.K.Sink.wants in (
       λ e. absurd (not_misused c.in-Task.task (files c.args.shelf.now) (files c.carry_out.new.shelf) (screen c.args.out.now) (screen c.carry_out.new.out) c.carry_out.result c.carry_out.ensures.ends e),
       λ none. absurd (none (meaning_by c.in-Task.task) c.in-Task.ensures),
     )
@@ -73,13 +74,13 @@ returns-in-Task-clause-usage g c =
 pub returns-in-Task-clause-misused : goal.returns-in-Task-clause-misused
 returns-in-Task-clause-misused g c =
     let files = files_seen g.S.Shelf.tells g.S.Shelf.file g.S.Shelf.steady g.S.Shelf.load_faults g.S.Shelf.save_faults in
-    let screen = screen_seen g.K.Sink.tells g.K.Sink.written g.K.Sink.steady g.K.Sink.faults in
+    let screen = screen_seen g.K.Sink.tells g.K.Sink.written g.K.Sink.steady g.K.Sink.faults g.K.Sink.wants in
     λ e. absurd (not_misused c.in-Task.task (files c.args.shelf.now) (files c.carry_out.new.shelf) (screen c.args.out.now) (screen c.carry_out.new.out) c.carry_out.result c.carry_out.ensures.ends e)
 
 pub returns-in-Task-clause-ends : goal.returns-in-Task-clause-ends
 returns-in-Task-clause-ends g c = λ m means.
     let files = files_seen g.S.Shelf.tells g.S.Shelf.file g.S.Shelf.steady g.S.Shelf.load_faults g.S.Shelf.save_faults in
-    let screen = screen_seen g.K.Sink.tells g.K.Sink.written g.K.Sink.steady g.K.Sink.faults in
+    let screen = screen_seen g.K.Sink.tells g.K.Sink.written g.K.Sink.steady g.K.Sink.faults g.K.Sink.wants in
     meant (map string_bytes c.args.words.now) (meaning_by c.in-Task.task) m
     (λ (m : Meaning). EndsAs (work_of m) (files c.args.shelf.now) (files c.carry_out.new.shelf) (screen c.args.out.now) (screen c.carry_out.new.out) c.carry_out.result)
     c.in-Task.ensures means c.carry_out.ensures.ends
@@ -87,7 +88,7 @@ returns-in-Task-clause-ends g c = λ m means.
 pub returns-in-Task-clause-completes : goal.returns-in-Task-clause-completes
 returns-in-Task-clause-completes g c = λ m loaded means told has accepts calm.
     let files = files_seen g.S.Shelf.tells g.S.Shelf.file g.S.Shelf.steady g.S.Shelf.load_faults g.S.Shelf.save_faults in
-    let screen = screen_seen g.K.Sink.tells g.K.Sink.written g.K.Sink.steady g.K.Sink.faults in
+    let screen = screen_seen g.K.Sink.tells g.K.Sink.written g.K.Sink.steady g.K.Sink.faults g.K.Sink.wants in
     ends_done (work_of m) (work_is_lawful m) (files c.args.shelf.now) (files c.carry_out.new.shelf) (screen c.args.out.now) (screen c.carry_out.new.out) loaded told has accepts calm c.carry_out.result
     (meant (map string_bytes c.args.words.now) (meaning_by c.in-Task.task) m
     (λ (m : Meaning). EndsAs (work_of m) (files c.args.shelf.now) (files c.carry_out.new.shelf) (screen c.args.out.now) (screen c.carry_out.new.out) c.carry_out.result)
@@ -103,6 +104,8 @@ returns-in-NoMemory-clause-usage g c = (λ e m h. absurd (cc), λ none. let e = 
 pub returns-in-NoMemory-clause-ends : goal.returns-in-NoMemory-clause-ends
 returns-in-NoMemory-clause-ends g c = λ m means.
     let files = files_seen g.S.Shelf.tells g.S.Shelf.file g.S.Shelf.steady g.S.Shelf.load_faults g.S.Shelf.save_faults in
-    let screen = screen_seen g.K.Sink.tells g.K.Sink.written g.K.Sink.steady g.K.Sink.faults in
-    wanting_ends (files c.args.shelf.now) (files c.args.shelf.now) (screen c.args.out.now) (screen c.tell-in-NoMemory.new.out) (map string_bytes c.args.words.now) m c.in-NoMemory.ensures
-    (record { told = refl; each = λ name. refl; saves = refl }, rw (c.as_bytes-in-NoMemory.ensures.value, c.no_memory_text.ensures) at c.tell-in-NoMemory.ensures.told) means
+    let screen = screen_seen g.K.Sink.tells g.K.Sink.written g.K.Sink.steady g.K.Sink.faults g.K.Sink.wants in
+    let here = files c.args.shelf.now in
+    rw c.give_up.ensures.ending
+    (wanting_ends here here (screen c.args.out.now) (screen c.give_up.new.out) (map string_bytes c.args.words.now) m c.in-NoMemory.ensures
+    (untouched_here here, c.give_up.ensures.told) means)

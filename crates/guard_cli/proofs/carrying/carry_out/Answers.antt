@@ -1,8 +1,9 @@
 use Rattle.std.proofs.Common.{ℕ, List, [], ◌∷◌, subst}
 use Rattle.guard_cli.specs.Inputs.{IsTurnedDown}
-use Rattle.guard_cli.specs.Texts.{refused_line}
-use Rattle.guard_cli.specs.Moments.{files_seen, screen_seen, IsToldOf}
-use Rattle.guard_cli.specs.Steps.{meaning_by, work_by, input_by, limit_by, saves_of, IsMadeBy, MadeEndsAs, LoadFailsAs}
+use Rattle.guard_cli.specs.Endings.{IsTurnedAwayAs}
+use Rattle.guard_cli.specs.Moments.{files_seen, screen_seen}
+use Rattle.guard_cli.specs.Steps.{work_by, input_by, limit_by, saves_of, IsMadeBy, MadeEndsAs, LoadFailsAs}
+use Rattle.guard_words.specs.Tasks.{meaning_by}
 use Rattle.guard_cli.proofs.Carried.{made_comes, unloaded_comes}
 use Rattle.guard_cli.proofs.CarriedTasks.{comes_ends, has_loaded, one_input, refused_comes}
 use Rattle.guard_cli.proofs.Lawful.{work_is_lawful}
@@ -11,7 +12,7 @@ use Rattle.guard_cli.proofs.carrying.carry_out.Goals as goal
 pub returns-in-Err-clause-ends : goal.returns-in-Err-clause-ends
 returns-in-Err-clause-ends g c =
     let files = files_seen g.S.Shelf.tells g.S.Shelf.file g.S.Shelf.steady g.S.Shelf.load_faults g.S.Shelf.save_faults in
-    let screen = screen_seen g.K.Sink.tells g.K.Sink.written g.K.Sink.steady g.K.Sink.faults in
+    let screen = screen_seen g.K.Sink.tells g.K.Sink.written g.K.Sink.steady g.K.Sink.faults g.K.Sink.wants in
     let task = c.args.task.now in
     let old = files c.args.shelf.now in
     let new = files c.load_input.new.shelf in
@@ -24,7 +25,7 @@ returns-in-Err-clause-ends g c =
 pub returns-in-Ok-decide-clause-ends : goal.returns-in-Ok-decide-clause-ends
 returns-in-Ok-decide-clause-ends g c =
     let files = files_seen g.S.Shelf.tells g.S.Shelf.file g.S.Shelf.steady g.S.Shelf.load_faults g.S.Shelf.save_faults in
-    let screen = screen_seen g.K.Sink.tells g.K.Sink.written g.K.Sink.steady g.K.Sink.faults in
+    let screen = screen_seen g.K.Sink.tells g.K.Sink.written g.K.Sink.steady g.K.Sink.faults g.K.Sink.wants in
     let task = c.args.task.now in
     let made = c.in-Ok-decide.made in
     let bytes = c.in-Ok.bytes.items in
@@ -43,7 +44,7 @@ returns-in-Ok-decide-clause-ends g c =
 pub returns-in-Err-Refused-clause-ends : goal.returns-in-Err-Refused-clause-ends
 returns-in-Err-Refused-clause-ends g c =
     let files = files_seen g.S.Shelf.tells g.S.Shelf.file g.S.Shelf.steady g.S.Shelf.load_faults g.S.Shelf.save_faults in
-    let screen = screen_seen g.K.Sink.tells g.K.Sink.written g.K.Sink.steady g.K.Sink.faults in
+    let screen = screen_seen g.K.Sink.tells g.K.Sink.written g.K.Sink.steady g.K.Sink.faults g.K.Sink.wants in
     let task = c.args.task.now in
     let w = work_by task in
     let spot = c.in-Err-Refused.spot in
@@ -51,12 +52,11 @@ returns-in-Err-Refused-clause-ends g c =
     let old = files c.args.shelf.now in
     let new = files c.load_input.new.shelf in
     let now = screen c.args.out.now in
-    let after = screen c.tell_made.new.out in
+    let after = screen c.turn_away.new.out in
     let refused = subst (λ d. IsTurnedDown (w.Refuses (c.deref.result.now ∷ [])) d) c.in-Err-Refused.field-0-is c.in-Err-Refused.ensures.refused in
     let cause = subst (λ (b : List ℕ). w.Refuses (b ∷ []) spot) c.deref.ensures.value refused in
-    let told = subst (λ k. IsToldOf (refused_line c.input_of-input.result.now spot) (screen k) after) c.in-Ok.ensures.silent
-    (c.tell_made.ensures.told (refused_line c.input_of-input.result.now spot) c.refused_text.ensures) in
-    let said = subst (λ (n : List ℕ). IsToldOf (refused_line n spot) now after) c.input_of-input.ensures told in
-    refused_comes task spot bytes old new now after
+    let told = subst (λ k. IsTurnedAwayAs c.input_of-input.result.now spot (screen k) after c.turn_away.result) c.in-Ok.ensures.silent c.turn_away.ensures.ending in
+    let turned = subst (λ (n : List ℕ). IsTurnedAwayAs n spot now after c.turn_away.result) c.input_of-input.ensures told in
+    refused_comes task spot bytes old new now after c.turn_away.result
     (has_loaded task old c.input_of-input.result.now c.most_of.result bytes c.input_of-input.ensures c.most_of.ensures c.in-Ok.ensures.loaded)
-    cause c.load_input.ensures.untouched said
+    cause c.load_input.ensures.untouched turned

@@ -1,0 +1,10 @@
+pub mod Pairs
+pub mod Cuts
+pub mod Fronts
+pub mod Arrangements
+pub mod Meanings
+pub mod NumberTexts
+pub mod OneMeaning
+pub mod Schedules
+mod WordExamples
+pub mod FileWords

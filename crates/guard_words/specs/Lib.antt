@@ -1,0 +1,5 @@
+pub mod Words
+pub mod Arranged
+pub mod Meanings
+pub mod Tasks
+pub mod Commands

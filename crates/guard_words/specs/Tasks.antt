@@ -1,0 +1,21 @@
+-- What the words mean of a command that is carried out.
+use Rattle.std.specs.Prelude.{[], ◌∷◌}
+use Rattle.guard_words.specs.declared.tasks.LinkCommand.{LinkCommand}
+use Rattle.guard_words.specs.declared.tasks.RunCommand.{RunCommand}
+use Rattle.guard_words.specs.declared.tasks.Task.{Task}
+use Rattle.guard_words.specs.declared.tasks.Task.TheVariants as task
+use Rattle.guard_words.specs.Words.{LinkWords, RunWords, listed}
+use Rattle.guard_words.specs.Meanings.{Meaning, harden, link, run, list}
+
+abbrev pub link_words : LinkCommand → LinkWords
+link_words c = record { at = c.at; output = c.output.now; inputs = c.input.now ∷ [] }
+
+abbrev pub run_words : RunCommand → RunWords
+run_words c = record { at = c.at; entry = c.entry.now; argument = c.argument; steps = c.steps; skips = listed c.plan; inputs = c.input.now ∷ [] }
+
+-- what the words of a command mean that is carried out
+abbrev pub meaning_by : Task → Meaning
+meaning_by (task.Harden input output) = harden (record { input = input.now; output = output.now } ∷ [])
+meaning_by (task.Link c) = link (link_words c)
+meaning_by (task.Run c) = run (run_words c)
+meaning_by (task.List input) = list input.now

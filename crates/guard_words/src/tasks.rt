@@ -1,0 +1,36 @@
+//! A command that is carried out, with its parameters.
+
+use skip_machine::Plan;
+use thumb_table::Placement;
+
+/// A command with its parameters.
+#[derive(Debug, Drop)]
+pub enum Task<'a> {
+    /// `harden` with one pair of files.
+    Harden { input: &'a str, output: &'a str },
+    /// `link` with one input.
+    Link(LinkCommand<'a>),
+    /// `run` with one input and the steps that are skipped.
+    Run(RunCommand<'a>),
+    /// `list`.
+    List { input: &'a str },
+}
+
+/// What is linked, where it is placed, and the file that takes the image.
+#[derive(Clone, Copy, Debug)]
+pub struct LinkCommand<'a> {
+    pub at: Placement,
+    pub output: &'a str,
+    pub input: &'a str,
+}
+
+/// What is run, and how: from the function `entry`, with `argument` in r0, for at most `steps` steps.
+#[derive(Debug, Drop)]
+pub struct RunCommand<'a> {
+    pub at: Placement,
+    pub entry: &'a str,
+    pub argument: Option<u32>,
+    pub steps: u64,
+    pub plan: Plan,
+    pub input: &'a str,
+}

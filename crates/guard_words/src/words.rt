@@ -1,0 +1,181 @@
+//! Reads the words of a command line.
+
+ghost use Rattle.std.specs.Prelude.{◌↔◌, ◌∷◌, map, codes, IsTrue, All, string_bytes, length, ◌*◌, ◌≤◌, ◌≡◌, ℕ, List};
+ghost use Rattle.guard_words.specs.Words.{Pair, IsHarden};
+ghost use Rattle.guard_words.specs.Commands.{AreInputs, IsHeadedBy, IsUnderstoodAs};
+
+use crate::file_word::file_word;
+use crate::options::{are_file_names, arrange};
+use crate::settings::{Schedule, is_placing, placement_of, said_of, schedule_of};
+use crate::tasks::{LinkCommand, RunCommand, Task};
+use clap::error::ErrorKind;
+use skip_machine::Plan;
+use std::alloc::Global;
+
+/// A command, as its words say it.
+#[derive(Debug, Drop)]
+pub enum Command<'a> {
+    /// No command.
+    Unknown,
+    /// A command that is not handled yet, since it has several inputs or draws its steps; the first input.
+    Early { input: &'a str },
+    /// A command that is carried out.
+    Task(Task<'a>),
+    /// A command whose plan or file word could not be read for want of memory.
+    NoMemory,
+}
+
+/// The command that the words are.
+pub fn command_of<'a>(alloc: Global, words: &'a [String]) -> Command<'a>
+    ensures { IsUnderstoodAs (map string_bytes words.now) result }
+{
+    let Some((word, rest)) = words.split_first() else {
+        return Command::Unknown;
+    };
+    let word = word.as_str();
+    if word == "harden" {
+        harden_of(rest)
+    } else if word == "link" {
+        link_of(rest)
+    } else if word == "run" {
+        run_of(alloc, rest)
+    } else if word == "list" {
+        list_of(alloc, words)
+    } else {
+        Command::Unknown
+    }
+}
+
+/// The command that `harden` with these names is.
+fn harden_of<'a>(names: &'a [String]) -> Command<'a>
+    ensures { IsUnderstoodAs (codes "harden" ∷ map string_bytes names.now) result }
+{
+    if !are_pairs(names) {
+        return Command::Unknown;
+    }
+    let input = &names[0];
+    let output = &names[1];
+    if names.len() > 2 {
+        return Command::Early {
+            input: input.as_str(),
+        };
+    }
+    Command::Task(Task::Harden {
+        input: input.as_str(),
+        output: output.as_str(),
+    })
+}
+
+/// Whether the names are those of one to sixteen pairs of files.
+fn are_pairs(names: &[String]) -> bool
+    ensures { IsTrue result ↔ ((pairs : List Pair) × IsHarden (codes "harden" ∷ map string_bytes names.now) pairs) }
+{
+    let pairs = names.len() / 2;
+    if names.len() % 2 != 0 || pairs == 0 || 16 < pairs {
+        return false;
+    }
+    are_file_names(names)
+}
+
+/// The command that `link` with these words is.
+fn link_of<'a>(words: &'a [String]) -> Command<'a>
+    ensures { IsUnderstoodAs (codes "link" ∷ map string_bytes words.now) result }
+{
+    let Some(read) = arrange(words) else {
+        return Command::Unknown;
+    };
+    if !is_placing(&read.options) {
+        return Command::Unknown;
+    }
+    let Some(at) = placement_of(&read.options) else {
+        return Command::Unknown;
+    };
+    let Some((output, inputs)) = read.files.split_first() else {
+        return Command::Unknown;
+    };
+    match inputs_of(inputs) {
+        Inputs::Unfit => Command::Unknown,
+        Inputs::Several(input) => Command::Early { input },
+        Inputs::One(input) => Command::Task(Task::Link(LinkCommand {
+            at,
+            output: output.as_str(),
+            input,
+        })),
+    }
+}
+
+/// The command that `run` with these words is.
+fn run_of<'a>(alloc: Global, words: &'a [String]) -> Command<'a>
+    ensures { IsUnderstoodAs (codes "run" ∷ map string_bytes words.now) result }
+{
+    let Some(read) = arrange(words) else {
+        return Command::Unknown;
+    };
+    let Some(said) = said_of(&read.options) else {
+        return Command::Unknown;
+    };
+    let Some(schedule) = schedule_of(read.options.skip, read.options.seed) else {
+        return Command::Unknown;
+    };
+    match inputs_of(read.files) {
+        Inputs::Unfit => Command::Unknown,
+        Inputs::Several(input) => Command::Early { input },
+        Inputs::One(input) => match schedule {
+            Schedule::Drawn(_) => Command::Early { input },
+            Schedule::Listed(list) => match Plan::read(alloc, list, 2) {
+                Ok(plan) => Command::Task(Task::Run(RunCommand {
+                    at: said.at,
+                    entry: said.entry,
+                    argument: said.argument,
+                    steps: said.steps,
+                    plan,
+                    input,
+                })),
+                // The list is a plan, so that only memory was wanting.
+                Err(_) => Command::NoMemory,
+            },
+        },
+    }
+}
+
+/// The command that these words are, of which the first is `list`.
+fn list_of<'a>(alloc: Global, words: &'a [String]) -> Command<'a>
+    requires { IsHeadedBy (codes "list") (map string_bytes words.now) }
+    ensures { IsUnderstoodAs (map string_bytes words.now) result }
+{
+    if words.len() != 2 || !are_file_names(&words[1..]) {
+        return Command::Unknown;
+    }
+    match file_word(alloc, words) {
+        Ok(Some(input)) => Command::Task(Task::List { input }),
+        Ok(None) => Command::Unknown,
+        Err(e) => match e.kind() {
+            ErrorKind::OutOfMemory => Command::NoMemory,
+            _ => Command::Unknown,
+        },
+    }
+}
+
+/// The input of a command that has one, or the first of several.
+#[derive(Clone, Copy, Debug)]
+enum Inputs<'a> {
+    Unfit,
+    One(&'a str),
+    Several(&'a str),
+}
+
+/// What one to sixteen inputs are.
+fn inputs_of<'a>(files: &'a [String]) -> Inputs<'a>
+    ensures { AreInputs (map string_bytes files.now) result }
+{
+    let Some((input, more)) = files.split_first() else {
+        return Inputs::Unfit;
+    };
+    if more.is_empty() {
+        Inputs::One(input.as_str())
+    } else if more.len() < 16 {
+        Inputs::Several(input.as_str())
+    } else {
+        Inputs::Unfit
+    }
+}
