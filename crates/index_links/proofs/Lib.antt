@@ -1,0 +1,4 @@
+pub mod Places
+pub mod ChainFacts
+pub mod QueueFacts
+pub mod PairFacts
