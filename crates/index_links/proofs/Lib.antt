@@ -2,3 +2,4 @@ pub mod Places
 pub mod ChainFacts
 pub mod QueueFacts
 pub mod PairFacts
+pub mod OrderFacts

@@ -1,28 +1,28 @@
 -- A queue that an index enters, or that its oldest one leaves.
-use Rattle.std.proofs.Common.{◌≡◌, ◌≢◌, ◌↔◌, ◌+◌, ◌<◌, ◌≤◌, ℕ, zero, suc, Bool, true, false, cond, List, [], ◌∷◌, ◌++◌, refl, sym, ap, ◌∙◌, subst, inl, inr, ◌⊎◌, Option, Some, None, length, get_or, replicate, arith}
-use Rattle.std.specs.Prelude.{slice_get, Contains, count_by, sum_by, ◌==◌}
+use Rattle.std.proofs.Common.{◌≡◌, ◌+◌, ◌<◌, ◌≤◌, ℕ, zero, suc, Bool, true, false, cond, List, [], ◌∷◌, ◌++◌, refl, sym, ap, ◌∙◌, inl, inr, Option, Some, None, length, replicate, arith}
+use Rattle.std.specs.Prelude.{slice_get, Contains, count_by, ◌==◌}
 use Rattle.std.proofs.Math.ListN.{set}
-use Rattle.std.proofs.lemmas.Bool.{true≢false, cases_eq, eqb-true, eq-eqb}
+use Rattle.std.proofs.lemmas.Bool.{cases_eq, eqb-true, eq-eqb}
 use Rattle.std.proofs.lemmas.List.{length_push, length-set}
 use Rattle.std.proofs.lemmas.List.Sums.{sum_by-append}
 use Rattle.std.proofs.lemmas.Option.{none-some, same_Some}
 use Rattle.index_links.specs.Queues.{IsQueue, times, mark_of}
 use Rattle.index_links.proofs.Places.{set_there, set_other}
 
-abbrev one_if : Bool → ℕ
+abbrev pub one_if : Bool → ℕ
 one_if b = cond b 1 0
 
-one_at : (j i : ℕ) → j ≡ i → one_if (j == i) ≡ 1
+pub one_at : (j i : ℕ) → j ≡ i → one_if (j == i) ≡ 1
 one_at j i e = ap one_if (eq-eqb j i e)
 
-none_at : (j i : ℕ) → (j ≡ i → ⊥) → one_if (j == i) ≡ 0
+pub none_at : (j i : ℕ) → (j ≡ i → ⊥) → one_if (j == i) ≡ 0
 none_at j i ne = go (j == i) refl
   where
     go : (b : Bool) → (j == i) ≡ b → one_if (j == i) ≡ 0
     go true e = absurd (ne (eqb-true j i e))
     go false e = ap one_if e
 
-times_step : (i j : ℕ) (xs : List ℕ) → times i (j ∷ xs) ≡ one_if (j == i) + times i xs
+pub times_step : (i j : ℕ) (xs : List ℕ) → times i (j ∷ xs) ≡ one_if (j == i) + times i xs
 times_step i j xs = let e : times i (j ∷ xs) ≡ 0 + one_if (j == i) + times i xs = sum_by-append (λ (k : ℕ). one_if (k == i)) (j ∷ []) xs in omega arith
 
 marks_step : (w : Bool) (waits : List Bool) → count_by (λ w. w) (w ∷ waits) ≡ one_if w + count_by (λ w. w) waits

@@ -1,8 +1,7 @@
-use Rattle.std.proofs.Common.{◌≡◌, ◌+◌, ◌<◌, ◌≤◌, ℕ, List, [], ◌∷◌, ◌++◌, refl, sym, ap, ◌∙◌, subst, Option, Some, None, length, arith}
-use Rattle.std.specs.Prelude.{slice_get, ◌-◌}
+use Rattle.std.proofs.Common.{◌≡◌, ◌+◌, ◌<◌, ℕ, List, refl, ap, ◌∙◌, Option, None, length, arith}
 use Rattle.std.proofs.lemmas.List.{length_push}
 use Rattle.std.proofs.lemmas.Option.{slice_get_read}
-use Rattle.index_links.specs.Chains.{ChainParts, HasRoom}
+use Rattle.index_links.specs.Chains.{ChainParts}
 use Rattle.index_links.proofs.ChainFacts.{added_as, last_there}
 use Rattle.index_links.proofs.chains.Chains.add.Goals as goal
 

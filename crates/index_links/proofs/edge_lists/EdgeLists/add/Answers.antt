@@ -1,9 +1,7 @@
-use Rattle.std.proofs.Common.{◌≡◌, ◌+◌, ◌-◌, ◌<◌, ◌≤◌, ◌∙◌, ◌++◌, ◌∷◌, [], ℕ, List, Option, Some, sym, ap, subst, refl, length, arith}
-use Rattle.std.specs.Prelude.{slice_get}
-use Rattle.std.proofs.lemmas.Option.{same_Some}
-use Rattle.index_links.specs.Links.{Edge, EdgeParts, Leaves, Enters, IsFirstFrom}
-use Rattle.index_links.specs.Chains.{ChainParts, Belongs, pairs}
-use Rattle.index_links.proofs.PairFacts.{length_pairs, pairs_push, source_at, target_at, first_leaves, first_enters}
+use Rattle.std.proofs.Common.{◌≡◌, ◌-◌, ◌∙◌, ◌++◌, ◌∷◌, [], List, ap, length, arith}
+use Rattle.index_links.specs.Links.{Edge, EdgeParts}
+use Rattle.index_links.specs.Chains.{ChainParts, pairs}
+use Rattle.index_links.proofs.PairFacts.{length_pairs, pairs_push}
 use Rattle.index_links.proofs.edge_lists.EdgeLists.add.Goals as goal
 
 pub returns-clause-index : goal.returns-clause-index

@@ -1,9 +1,8 @@
-use Rattle.std.proofs.Common.{◌≡◌, ◌+◌, ◌-◌, ◌<◌, ◌≤◌, ◌∙◌, ◌++◌, ◌∷◌, [], ℕ, List, Option, Some, sym, ap, subst, refl, length, arith}
+use Rattle.std.proofs.Common.{◌≡◌, ◌+◌, ◌∙◌, Some, ap, subst, length, arith}
 use Rattle.std.specs.Prelude.{slice_get}
-use Rattle.std.proofs.lemmas.Option.{same_Some}
-use Rattle.index_links.specs.Links.{Edge, EdgeParts, Leaves, Enters, IsFirstFrom}
-use Rattle.index_links.specs.Chains.{ChainParts, Belongs, pairs}
-use Rattle.index_links.proofs.PairFacts.{length_pairs, pairs_push, source_at, target_at, first_leaves, first_enters}
+use Rattle.index_links.specs.Links.{EdgeParts, Enters, IsFirstFrom}
+use Rattle.index_links.specs.Chains.{pairs}
+use Rattle.index_links.proofs.PairFacts.{length_pairs, target_at, first_enters}
 use Rattle.index_links.proofs.edge_lists.EdgeLists.next_in.Goals as goal
 
 pub next-requires : goal.next-requires

@@ -1,9 +1,9 @@
-use Rattle.std.proofs.Common.{◌≡◌, ◌+◌, ◌-◌, ◌<◌, ◌≤◌, ◌∙◌, ◌++◌, ◌∷◌, [], ℕ, List, Option, Some, sym, ap, subst, refl, length, arith}
+use Rattle.std.proofs.Common.{◌≡◌, ◌∙◌, Some, sym, ap, length, arith}
 use Rattle.std.specs.Prelude.{slice_get}
 use Rattle.std.proofs.lemmas.Option.{same_Some}
-use Rattle.index_links.specs.Links.{Edge, EdgeParts, Leaves, Enters, IsFirstFrom}
-use Rattle.index_links.specs.Chains.{ChainParts, Belongs, pairs}
-use Rattle.index_links.proofs.PairFacts.{length_pairs, pairs_push, source_at, target_at, first_leaves, first_enters}
+use Rattle.index_links.specs.Links.{EdgeParts}
+use Rattle.index_links.specs.Chains.{pairs}
+use Rattle.index_links.proofs.PairFacts.{length_pairs, source_at}
 use Rattle.index_links.proofs.edge_lists.EdgeLists.source.Goals as goal
 
 pub head-requires : goal.head-requires

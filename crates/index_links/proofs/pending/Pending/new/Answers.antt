@@ -1,4 +1,4 @@
-use Rattle.std.proofs.Common.{arith, false}
+use Rattle.std.proofs.Common.{arith}
 use Rattle.index_links.proofs.QueueFacts.{empty_queue}
 use Rattle.index_links.proofs.pending.Pending.new.Goals as goal
 

@@ -1,4 +1,4 @@
-use Rattle.std.proofs.Common.{◌≡◌, ◌<◌, ◌∙◌, ◌∷◌, ℕ, List, sym, ap, subst, length, arith}
+use Rattle.std.proofs.Common.{ℕ, List, ap, subst, arith}
 use Rattle.std.proofs.Common.{deque_capacity}
 use Rattle.index_links.specs.Queues.{PendingParts, IsQueue}
 use Rattle.index_links.proofs.QueueFacts.{oldest_small, oldest_once, left}
