@@ -19,7 +19,7 @@ use Rattle.liveness.specs.declared.boundary.Boundary.{Boundary}
 use Rattle.liveness.specs.Paths.{IsLiveBefore, IsLiveAfter, NamesPoints, leaves, boundary_of}
 use Rattle.liveness.specs.Paths.IsLiveAfter.{at_boundary, before_next}
 use Rattle.liveness.specs.Sets.{LiveParts, has_in, holds_at, holds_after, successors_hold}
-use Rattle.liveness.specs.Sweeps.{AreSound, AreSettled}
+use Rattle.liveness.specs.Work.{AreSound, AreSettled}
 use Rattle.liveness.specs.Faults.{is_unset_at_entry, is_lost_in_call, IsLowestLive, LiveFault, IsLiveRefusal, AreLive}
 use Rattle.liveness.specs.Faults.LiveFault.{at_entry, at_return}
 use Rattle.liveness.specs.Spots.{unset, lost, first_in, spot_at_entry, entry_spot, is_call, first_after, spot_at_call, call_spot, picked, all_spots}

@@ -1,8 +1,12 @@
 pub mod MemberFacts
 pub mod PointFacts
 pub mod PathFacts
-pub mod RoomFacts
-pub mod SweepFacts
+pub mod ReadFacts
+pub mod LackFacts
+pub mod EdgeFacts
+pub mod TurnFacts
+pub mod PutFacts
+pub mod WorkFacts
 pub mod Elements
 pub mod LowestFacts
 pub mod FaultFacts

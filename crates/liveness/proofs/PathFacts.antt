@@ -11,7 +11,7 @@ use Rattle.liveness.specs.declared.boundary.Boundary.{Boundary}
 use Rattle.liveness.specs.Paths.{Leads, passes, always_writes, uses_at, Keeps, IsLiveBefore}
 use Rattle.liveness.specs.Paths.Keeps.{here, further}
 use Rattle.liveness.specs.Sets.{holds_at, next_holds, target_holds, successors_hold, gains}
-use Rattle.liveness.specs.Sweeps.{AreSound, AreStable}
+use Rattle.liveness.specs.Work.{AreSound, AreStable}
 
 pub or_cases : (x y : Bool) → (x || y) ≡ true → (x ≡ true) ⊎ (y ≡ true)
 or_cases true y h = inl refl
@@ -83,22 +83,22 @@ path_held f b sets k _ _ y stable (further p m q x at pass keep leads rest) ther
 pub live_held : (f : FlowParts) (b : Boundary) (sets : List RegSet) → AreStable f b sets → (p k : ℕ) → IsLiveBefore f b k p → holds_at sets p k ≡ true
 live_held f b sets stable p k live = path_held f b sets k p live.last live.point stable live.path live.there live.used
 
--- equal members give equal gains
-next_same : (s t : List RegSet) (k : ℕ) → ((q : ℕ) → holds_at s q k ≡ holds_at t q k) → (o : Option ℕ) → next_holds s o k ≡ next_holds t o k
-next_same s t k same None = refl
-next_same s t k same (Some q) = same q
+-- equal members behind a point give equal gains
+next_same : (s t : List RegSet) (k : ℕ) (o : Option ℕ) → ((q : ℕ) → o ≡ Some q → holds_at s q k ≡ holds_at t q k) → next_holds s o k ≡ next_holds t o k
+next_same s t k None same = refl
+next_same s t k (Some q) same = same q refl
 
-target_same : (s t : List RegSet) (k : ℕ) → ((q : ℕ) → holds_at s q k ≡ holds_at t q k) → (e : Exit) → target_holds s e k ≡ target_holds t e k
-target_same s t k same Falls = refl
-target_same s t k same (Branch q) = same q
-target_same s t k same Transfer = refl
-target_same s t k same Call = refl
-target_same s t k same Return = refl
-target_same s t k same Stops = refl
+target_same : (s t : List RegSet) (k : ℕ) (e : Exit) → ((q : ℕ) → e ≡ Branch q → holds_at s q k ≡ holds_at t q k) → target_holds s e k ≡ target_holds t e k
+target_same s t k Falls same = refl
+target_same s t k (Branch q) same = same q refl
+target_same s t k Transfer same = refl
+target_same s t k Call same = refl
+target_same s t k Return same = refl
+target_same s t k Stops same = refl
 
-pub gains_same : (b : Boundary) (s t : List RegSet) (x : Point) (k : ℕ) → ((q : ℕ) → holds_at s q k ≡ holds_at t q k) → gains b s x k ≡ gains b t x k
+pub gains_same : (b : Boundary) (s t : List RegSet) (x : Point) (k : ℕ) → ((q : ℕ) → Leads x q → holds_at s q k ≡ holds_at t q k) → gains b s x k ≡ gains b t x k
 gains_same b s t x k same =
-    let n = next_same s t k same x.next in
-    let e = target_same s t k same x.exit in
+    let n = next_same s t k x.next (λ q e. same q (inl e)) in
+    let e = target_same s t k x.exit (λ q e. same q (inr e)) in
     ap (λ (v : Bool). uses_at b x k || (passes x && ((v || target_holds s x.exit k) && not (always_writes x k)))) n
     ∙ ap (λ (v : Bool). uses_at b x k || (passes x && ((next_holds t x.next k || v) && not (always_writes x k)))) e

@@ -15,16 +15,6 @@ use Rattle.liveness.specs.Sets.{has_in, holds_at, gains, holds_after}
 pub read_there : {X : Type 0} (items xs : List X) (p : ℕ) (x : X) → xs ≡ items → p < length items → x ≡ get_or xs p x → slice_get items p ≡ Some x
 read_there {X} items xs p x e low is = subst (λ (l : List X). slice_get l p ≡ Some x) e (slice_get_read xs (length xs) p x refl (subst (λ (l : List X). p < length l) (sym e) low) is)
 
-pub set_there : {X : Type 0} (xs : List X) (p : ℕ) (x : X) → p < length xs → slice_get (set xs p x) p ≡ Some x
-set_there {X} xs p x low = slice_get-get_or (set xs p x) p x (subst (λ (n : ℕ). p < n) (sym (length-set xs p x)) low) ∙ ap (λ (y : X). Some y) (get_or-set_same xs p x x low)
-
-pub set_other : {X : Type 0} (xs : List X) (p q : ℕ) (x : X) → q ≢ p → slice_get (set xs p x) q ≡ slice_get xs q
-set_other [] p q x ne = refl
-set_other (y ∷ ys) zero zero x ne = absurd (ne refl)
-set_other (y ∷ ys) zero (suc q) x ne = refl
-set_other (y ∷ ys) (suc p) zero x ne = refl
-set_other (y ∷ ys) (suc p) (suc q) x ne = set_other ys p q x (λ e. ne (ap (λ (n : ℕ). suc n) e))
-
 -- an edge of a point that was read leads to one of the sets
 pub edge_within : (f : FlowParts) (points : List Point) (sets items l : List RegSet) (p q : ℕ) (x : Point) → NamesPoints f → points ≡ f.points → p < length f.points → x ≡ get_or points p x → length sets ≡ length f.points → items ≡ sets → l ≡ items → Leads x q → q < length l
 edge_within f points sets items l p q x names e low is sized same read leads =

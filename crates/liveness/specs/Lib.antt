@@ -1,5 +1,7 @@
 pub mod Paths
 pub mod Sets
 pub mod Faults
-pub mod Sweeps
+pub mod Members
+pub mod Edges
+pub mod Work
 pub mod Spots

@@ -2,13 +2,15 @@
 #![tactic(auto)]
 
 mod boundary;
+mod edges;
+mod instructions;
 mod laws;
 mod liveness;
 mod members;
 mod points;
 mod sets;
 mod spots;
-mod sweeps;
+mod worklist;
 
 pub use boundary::Boundary;
 pub use laws::{points_have_one_live_set, recovered_flows_name_points, unset_members_are_dead};

@@ -5,7 +5,7 @@ ghost use Rattle.liveness.specs.Paths.{NamesPoints};
 ghost use Rattle.liveness.specs.Faults.{AreLive, IsLiveDenial};
 
 use crate::spots::spots_of;
-use crate::sweeps::settled;
+use crate::worklist::settled;
 use crate::{Boundary, Live};
 use elf_model::Deny;
 use flow_recover::{Flow, first_of};

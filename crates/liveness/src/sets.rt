@@ -4,9 +4,11 @@ ghost use Rattle.std.specs.Prelude.{◌≡◌, ◌≢◌, ◌<◌, ◌≤◌, �
 ghost use Rattle.thumb_instr.specs.Operands.{has};
 ghost use Rattle.flow_recover.specs.declared.flows.Point.{Point};
 ghost use Rattle.liveness.specs.Paths.{Leads, NamesPoints};
+ghost use Rattle.liveness.specs.Members.{HoldMembers};
 ghost use Rattle.liveness.specs.Sets.{holds_at, next_holds, target_holds, successors_hold, gains, holds_after};
 
 use crate::Boundary;
+use crate::instructions::reads_members;
 use crate::members::{differ, is_word, minus};
 use crate::points::{always_writes, boundary_of, leaves, passes, uses_at};
 use flow_recover::{Exit, Flow, Point};
@@ -23,10 +25,13 @@ pub struct Live {
 
 impl Model for Live {
     ghost use Rattle.liveness.specs.Sets.{LiveParts};
+    ghost use Rattle.liveness.specs.Members.{HoldMembers};
 
     ghost Value = { LiveParts };
 
     ghost view = { λ l. record { sets = l.sets.items; turns = l.turns } };
+
+    ghost invariant = { λ l. HoldMembers l.sets.items };
 }
 
 /// The set of the next point, if there is one.
@@ -107,8 +112,10 @@ impl Live {
         ensures set { (x : Point) → slice_get f.now.points p ≡ Some x → (k : ℕ) → holds_at self.new.sets p k ≡ (holds_at self.old.sets p k || gains b.now self.old.sets x k) }
         ensures grew { IsTrue result ↔ ((k : ℕ) × (holds_at self.old.sets p k ≡ false) × (holds_at self.new.sets p k ≡ true)) }
         ensures words { (k : ℕ) → 32 ≤ k → holds_at self.new.sets p k ≡ false }
+        ensures members { HoldMembers self.new.sets }
     {
         let x = f.points()[p as usize];
+        reads_members(&x.instr);
         let old = self.sets[p as usize];
         let set = old.with(gains(b, &self.sets, &x));
         self.sets[p as usize] = set;

@@ -1,10 +1,14 @@
-use Rattle.std.proofs.Common.{◌≡◌, ◌<◌, ◌∙◌, ap, sym, subst, ℕ, List, Some, Option, length}
+use Rattle.std.proofs.Common.{◌≡◌, ◌<◌, ◌∙◌, ap, sym, subst, refl, inl, inr, ℕ, List, Some, Option, length}
 use Rattle.std.specs.Prelude.{slice_get}
 use Rattle.std.proofs.Math.ListN.{set}
 use Rattle.thumb_instr.specs.declared.register_sets.RegSet.{RegSet}
 use Rattle.thumb_instr.specs.Operands.{has}
 use Rattle.liveness.specs.Sets.{LiveParts, has_in, holds_at}
-use Rattle.liveness.proofs.PointFacts.{read_there, set_there, set_other, edge_within, set_gains, set_grew}
+use Rattle.index_links.proofs.Places.{set_there, set_other}
+use Rattle.liveness.specs.Members.{HoldMembers}
+use Rattle.liveness.proofs.PathFacts.{or_cases}
+use Rattle.liveness.proofs.PointFacts.{read_there, edge_within, set_gains, set_grew}
+use Rattle.liveness.proofs.ReadFacts.{gains_member, set_members}
 use Rattle.liveness.proofs.sets.Live.settle.Goals as goal
 
 pub gains-requires : goal.gains-requires
@@ -46,3 +50,26 @@ returns-clause-words c = λ k high.
     let was : slice_get c.args.self.now.sets c.args.p ≡ Some c.index-old.result.now = read_there c.args.self.now.sets c.self.inside.sets.items c.args.p c.index-old.result.now same low c.index-old.ensures in
     let now : slice_get (set c.self.inside.sets.items c.args.p c.with-set.result) c.args.p ≡ Some c.with-set.result = set_there c.self.inside.sets.items c.args.p c.with-set.result within in
     ap (λ (o : Option RegSet). has_in o k) now ∙ c.is_word.ensures k high
+
+-- what the new set holds was held, or is gained
+pub invariant_of-self : goal.invariant_of-self
+invariant_of-self c =
+    let same : c.self.inside.sets.items ≡ c.args.self.now.sets = ap (λ (l : LiveParts). l.sets) c.self.view_is in
+    let low : c.args.p < length c.args.self.now.sets = subst (λ (n : ℕ). c.args.p < n) (sym c.requires.sized) c.requires.there in
+    let was : slice_get c.self.inside.sets.items c.args.p ≡ Some c.index-old.result.now = read_there c.self.inside.sets.items c.self.inside.sets.items c.args.p c.index-old.result.now refl (subst (λ (l : List RegSet). c.args.p < length l) (sym same) low) c.index-old.ensures in
+    let hold : HoldMembers c.deref.result.now = subst HoldMembers (sym c.deref.ensures.value) c.self.invariant in
+    set_members c.self.inside.sets.items c.args.p c.with-set.result c.self.invariant (λ k h. elim (or_cases (has c.index-old.result.now.0 k) (has c.gains.result.0 k) (sym (c.with-set.ensures k) ∙ h)) [
+      | inl old ↦ c.self.invariant c.args.p k (ap (λ (o : Option RegSet). has_in o k) was ∙ old)
+      | inr new ↦ gains_member c.args.b.now c.deref.result.now c.index-points-p.result hold c.reads_members.ensures k (sym (c.gains.ensures k) ∙ new)
+    ])
+
+pub returns-clause-members : goal.returns-clause-members
+returns-clause-members c =
+    let same : c.self.inside.sets.items ≡ c.args.self.now.sets = ap (λ (l : LiveParts). l.sets) c.self.view_is in
+    let low : c.args.p < length c.args.self.now.sets = subst (λ (n : ℕ). c.args.p < n) (sym c.requires.sized) c.requires.there in
+    let was : slice_get c.self.inside.sets.items c.args.p ≡ Some c.index-old.result.now = read_there c.self.inside.sets.items c.self.inside.sets.items c.args.p c.index-old.result.now refl (subst (λ (l : List RegSet). c.args.p < length l) (sym same) low) c.index-old.ensures in
+    let hold : HoldMembers c.deref.result.now = subst HoldMembers (sym c.deref.ensures.value) c.self.invariant in
+    set_members c.self.inside.sets.items c.args.p c.with-set.result c.self.invariant (λ k h. elim (or_cases (has c.index-old.result.now.0 k) (has c.gains.result.0 k) (sym (c.with-set.ensures k) ∙ h)) [
+      | inl old ↦ c.self.invariant c.args.p k (ap (λ (o : Option RegSet). has_in o k) was ∙ old)
+      | inr new ↦ gains_member c.args.b.now c.deref.result.now c.index-points-p.result hold c.reads_members.ensures k (sym (c.gains.ensures k) ∙ new)
+    ])

@@ -1,0 +1,5 @@
+pub mod Places
+pub mod ChainFacts
+pub mod QueueFacts
+pub mod PairFacts
+pub mod OrderFacts

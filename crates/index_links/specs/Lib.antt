@@ -1,0 +1,4 @@
+pub mod Links
+pub mod Queues
+pub mod Chains
+pub mod Orders
