@@ -1,0 +1,4 @@
+pub mod Registers
+pub mod MovedLists
+pub mod Popped
+pub mod Stepped
