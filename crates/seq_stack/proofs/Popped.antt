@@ -1,11 +1,11 @@
 -- Returns by a list.
-use Rattle.std.proofs.Common.{◌≡◌, ℕ, ◌+◌, ◌^◌, ◌<◌, ◌≤◌, ◌==◌, ◌&&◌, ◌||◌, not, Bool, true, false, List, [], ◌∷◌, Ok, refl, sym, ap, subst, arith}
-use Rattle.std.proofs.lemmas.Bool.{eqb-true, and_parts}
+use Rattle.std.proofs.Common.{◌≡◌, ℕ, ◌+◌, ◌^◌, ◌<◌, ◌≤◌, ◌==◌, ◌&&◌, ◌||◌, not, Bool, true, false, List, [], ◌∷◌, Ok, refl, sym, ap, ◌∙◌, subst, arith}
 use Rattle.std.proofs.lemmas.Bool.Decides.{nat_tests}
 use Rattle.thumb_instr.specs.declared.register_sets.RegSet.{RegSet}
 use Rattle.thumb_instr.specs.declared.refusals.ItPlace.TheVariants.{Outside}
 use Rattle.thumb_instr.specs.declared.instructions.Instr.{Instr}
 use Rattle.thumb_instr.specs.declared.instructions.Instr.TheVariants as instr
+use Rattle.thumb_instr.specs.Fields.{MultiFields}
 use Rattle.thumb_instr.specs.Operands.{has, is_list}
 use Rattle.thumb_instr.specs.Sets.{reads_of, writes_of}
 use Rattle.thumb_instr.specs.Meanings.{constant_of}
@@ -116,3 +116,10 @@ by_fields laws load down back n list true q row e free =
 pub returns_work : Laws → ReturnsWork
 returns_work laws (instr.Multi m) q row e free = by_fields laws m.load m.down m.back m.n m.list m.pc q row e free
 returns_work laws i q row e free = absurd cc
+
+-- the list with lr is one
+pub link_is_list : (i : MultiFields) → is_list i.list.0 i.pc ≡ true → i.pc ≡ true → loads_pc_by_pop (instr.Multi i) ≡ true → is_list (i.list.0 + 2 ^ 14) false ≡ true
+link_is_list i is pc pops =
+    let with_pc : is_list i.list.0 true ≡ true = ap (λ (b : Bool). is_list i.list.0 b) (sym pc) ∙ is in
+    let no_link : has i.list.0 14 ≡ false = grind (arith, nat_tests) in
+    linked_is i.list.0 (is_return i.list.0 with_pc no_link)

@@ -1,17 +1,19 @@
 //! Class PopReturn.
 
-ghost use Rattle.std.specs.Prelude.{◌≡◌, length};
+ghost use Rattle.std.specs.Prelude.{◌≡◌, false, length, true};
+ghost use Rattle.thumb_instr.specs.Operands.{is_list};
 ghost use Rattle.seq_core.specs.Built.{as_steps};
 ghost use Rattle.seq_core.specs.Builders.{HasRow};
+ghost use Rattle.seq_core.specs.Classes.{has_pc};
 ghost use Rattle.seq_core.specs.Replaced.{popped, with_link};
 
 use crate::laws::returns_work;
 use crate::lists::transfer;
 use bitflags::Flags;
 use seq_core::{
-    Builder, Class, Need, Seq, count_registers, moved, need_of, sequence, summed,
+    Builder, Class, Need, Seq, count_registers, decodes_use_stack, moved, need_of, sequence, summed,
 };
-use thumb_instr::{Instr, Jump, Multi, Reg, RegSet, decodes_are_formed};
+use thumb_instr::{Instr, Jump, Multi, Reg, RegSet};
 
 /// Builds the sequences of class PopReturn: of loads of a list with pc, which pop it and return.
 #[derive(Clone, Copy, Debug)]
@@ -33,16 +35,19 @@ fn link() -> Reg
 
 /// The list of a return, with lr in place of pc.
 fn with_link(i: &Multi) -> RegSet
-    requires { HasRow (Instr.Multi i.now) }
-    ensures { result ≡ with_link i.now.list }
+    requires row { HasRow (Instr.Multi i.now) }
+    requires pc { i.now.pc ≡ true }
+    ensures set { result ≡ with_link i.now.list }
+    ensures list { is_list result.0 false ≡ true }
 {
-    decodes_are_formed();
+    decodes_use_stack();
     RegSet::from_bits_retain(i.list.bits() + RegSet::LR.bits())
 }
 
 /// The sequence of a return by a list. sp is set before the jump.
 fn popped(i: &Instr, q: Reg, copies: u8) -> Seq
-    requires { HasRow i.now }
+    requires row { HasRow i.now }
+    requires pc { has_pc i.now ≡ true }
     ensures { result ≡ record { steps = as_steps copies (popped i.now q); landing = length (popped i.now q) } }
 {
     match i {
@@ -53,7 +58,7 @@ fn popped(i: &Instr, q: Reg, copies: u8) -> Seq
             let jump = Instr::Jump(Jump { m: link() });
             sequence(&[list, step, back, jump], copies)
         }
-        _ => Seq::new(),
+        _ => unreachable!(),
     }
 }
 
