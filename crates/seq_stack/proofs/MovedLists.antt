@@ -1,5 +1,5 @@
 -- Lists that move their base.
-use Rattle.std.proofs.Common.{◌≡◌, ◌≢◌, ℕ, ◌<◌, ◌≤◌, ◌==◌, ◌&&◌, ◌||◌, not, Bool, true, false, List, [], ◌∷◌, refl, sym, arith}
+use Rattle.std.proofs.Common.{◌≡◌, ℕ, ◌<◌, ◌≤◌, ◌==◌, ◌&&◌, ◌||◌, not, Bool, true, false, List, [], ◌∷◌, refl, arith}
 use Rattle.std.proofs.lemmas.Bool.Decides.{nat_tests}
 use Rattle.thumb_instr.specs.declared.register_sets.RegSet.{RegSet}
 use Rattle.thumb_instr.specs.declared.refusals.ItPlace.TheVariants.{Outside}
@@ -13,8 +13,8 @@ use Rattle.thumb_table.specs.Effects.{bytes_of, registers}
 use Rattle.seq_core.specs.Accepted.{DecodesApart}
 use Rattle.seq_core.specs.Classes.{moves_list_base}
 use Rattle.seq_core.specs.Constants.{MovesAreConstants}
-use Rattle.seq_core.specs.Groups.{IsFree, moving, names_no_place, only}
-use Rattle.seq_core.specs.Bases.{IsBeside, summing}
+use Rattle.seq_core.specs.Groups.{IsFree, names_no_place, only}
+use Rattle.seq_core.specs.Bases.{IsBeside}
 use Rattle.seq_core.specs.Stacks.{DownCarries, IsOutside, UpCarries, moving_list, transfer_at}
 use Rattle.seq_core.specs.Replaced.{moved_list}
 use Rattle.seq_core.specs.Builders.{HasRow, PlainStepsDo, loses}

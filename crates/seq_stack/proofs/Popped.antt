@@ -1,5 +1,5 @@
 -- Returns by a list.
-use Rattle.std.proofs.Common.{◌≡◌, ℕ, ◌+◌, ◌^◌, ◌<◌, ◌≤◌, ◌==◌, ◌&&◌, ◌||◌, not, Bool, true, false, List, [], ◌∷◌, Ok, refl, sym, ap, ◌∙◌, subst, arith}
+use Rattle.std.proofs.Common.{◌≡◌, ℕ, ◌+◌, ◌^◌, ◌<◌, ◌==◌, ◌&&◌, ◌||◌, Bool, true, false, List, [], ◌∷◌, Ok, refl, sym, ap, ◌∙◌, subst, arith}
 use Rattle.std.proofs.lemmas.Bool.Decides.{nat_tests}
 use Rattle.thumb_instr.specs.declared.register_sets.RegSet.{RegSet}
 use Rattle.thumb_instr.specs.declared.refusals.ItPlace.TheVariants.{Outside}
@@ -24,7 +24,7 @@ use Rattle.seq_core.specs.Groups.{IsFree, always, done, jump_by, moving, only}
 use Rattle.seq_core.specs.Bases.{summing}
 use Rattle.seq_core.specs.Built.{as_steps}
 use Rattle.seq_core.specs.Stacks.{IsOutside, PopReturnCarries, returning, transfer_at}
-use Rattle.seq_core.specs.Denoted.{Spots, denoted, groups_of}
+use Rattle.seq_core.specs.Denoted.{Spots, denoted}
 use Rattle.seq_core.specs.Replaced.{jumping, popped, with_link}
 use Rattle.seq_core.specs.Builders.{HasRow, MoreMayBeLost, StepsDo, loses, meaning, own_test}
 use Rattle.seq_core.specs.Coded.{MovesCoded, SumsCoded, TransfersCoded}
@@ -100,9 +100,14 @@ module _ (laws : Laws) (list : RegSet) (q : ℕ) (row : HasRow (returning list))
         (sym (denoted_transfer p 13 lr (registers lr.0))) (carried p));
     coded = λ copies. (
       laws.transfers true 13 lr (omega arith) (linked_is list.0 known),
-      (laws.sums true q 13 (constant_of bytes) free.low (omega arith) (laws.constants bytes (moves_few list.0 true)).1,
-      (laws.moves 13 q (omega arith) (let low : q < 13 = free.low in omega arith) (let low : q < 13 = free.low in grind (arith, nat_tests)),
-      (record { first = 0x4770; second = 0; stands = bx_link }, tt))));
+      (
+        laws.sums true q 13 (constant_of bytes) free.low (omega arith) (laws.constants bytes (moves_few list.0 true)).1,
+        (
+          laws.moves 13 q (omega arith) (let low : q < 13 = free.low in omega arith) (let low : q < 13 = free.low in grind (arith, nat_tests)),
+          (record { first = 0x4770; second = 0; stands = bx_link }, tt),
+        ),
+      ),
+    );
   }
 
 by_fields : Laws → (load down back : Bool) (n : ℕ) (list : RegSet) (pc : Bool) (q : ℕ) → let i : Instr = instr.Multi (record { load = load; down = down; back = back; n = n; list = list; pc = pc }) in

@@ -1,5 +1,5 @@
 -- Lists of registers: how many there are, and a list with lr.
-use Rattle.std.proofs.Common.{◌≡◌, ◌≢◌, ℕ, ◌+◌, ◌-◌, ◌*◌, ◌/◌, ◌%◌, ◌^◌, ◌<◌, ◌≤◌, ◌==◌, nat_lt, Bool, true, false, List, [], ◌∷◌, ◌++◌, length, filter, cond, refl, sym, ap, ◌∙◌, arith}
+use Rattle.std.proofs.Common.{◌≡◌, ◌≢◌, ℕ, ◌+◌, ◌-◌, ◌*◌, ◌/◌, ◌%◌, ◌^◌, ◌<◌, ◌≤◌, ◌==◌, Bool, true, false, List, [], ◌∷◌, ◌++◌, length, filter, cond, refl, sym, ap, ◌∙◌, arith}
 use Rattle.std.specs.Prelude.{⊤}
 use Rattle.std.proofs.Math.Nat.{add-mul-div_right, add-mul-mod_self_right}
 use Rattle.std.proofs.lemmas.Nat.{pow-add, pow_pos}
@@ -7,11 +7,9 @@ use Rattle.std.proofs.lemmas.List.{append-nil}
 use Rattle.std.proofs.lemmas.List.Sums.{length-filter, count_by-le-length}
 use Rattle.std.proofs.lemmas.List.Elements.{filter-append}
 use Rattle.std.proofs.lemmas.Bool.Decides.{nat_tests}
-use Rattle.thumb_instr.specs.declared.register_sets.RegSet.{RegSet}
 use Rattle.thumb_instr.specs.Operands.{has, is_list}
 use Rattle.thumb_table.specs.Effects.{bytes_of, registers}
 use Rattle.seq_core.specs.Constants.{is_move}
-use Rattle.seq_core.specs.Replaced.{with_link}
 
 abbrev low : List ℕ
 low = 0 ∷ 1 ∷ 2 ∷ 3 ∷ 4 ∷ 5 ∷ 6 ∷ 7 ∷ 8 ∷ 9 ∷ 10 ∷ 11 ∷ 12 ∷ 13 ∷ []
@@ -48,9 +46,28 @@ filter_same p q (r ∷ rs) h = ap (λ b. cond b (r ∷ filter p rs) (filter p rs
 
 low_same : (list : ℕ) → Each (λ r. has (list + 2 ^ 14) r ≡ has list r) low
 unfolding Each
-low_same list =
-    (has_same list 0 (omega arith), (has_same list 1 (omega arith), (has_same list 2 (omega arith), (has_same list 3 (omega arith), (has_same list 4 (omega arith), (has_same list 5 (omega arith), (has_same list 6 (omega arith),
-    (has_same list 7 (omega arith), (has_same list 8 (omega arith), (has_same list 9 (omega arith), (has_same list 10 (omega arith), (has_same list 11 (omega arith), (has_same list 12 (omega arith), (has_same list 13 (omega arith), tt))))))))))))))
+low_same list = (
+  has_same list 0 (omega arith),
+  (
+    has_same list 1 (omega arith),
+    (
+      has_same list 2 (omega arith),
+      (
+        has_same list 3 (omega arith),
+        (
+          has_same list 4 (omega arith),
+          (
+            has_same list 5 (omega arith),
+            (
+              has_same list 6 (omega arith),
+              (has_same list 7 (omega arith), (has_same list 8 (omega arith), (has_same list 9 (omega arith), (has_same list 10 (omega arith), (has_same list 11 (omega arith), (has_same list 12 (omega arith), (has_same list 13 (omega arith), tt))))))),
+            ),
+          ),
+        ),
+      ),
+    ),
+  ),
+)
 
 -- a list with pc, as rows have it
 pub record IsReturn (list : ℕ) : Type 0 where

@@ -1,5 +1,5 @@
 -- Sums that move sp.
-use Rattle.std.proofs.Common.{◌≡◌, ℕ, ◌<◌, ◌≤◌, ◌==◌, ◌&&◌, ◌||◌, not, Bool, true, false, List, [], ◌∷◌, Option, Some, refl, sym, ap, subst, arith}
+use Rattle.std.proofs.Common.{◌≡◌, ℕ, ◌<◌, ◌≤◌, ◌==◌, ◌&&◌, Bool, true, false, [], ◌∷◌, Some, refl, ap, arith}
 use Rattle.std.proofs.lemmas.Bool.Decides.{nat_tests}
 use Rattle.thumb_instr.specs.declared.operations.AluOp.{AluOp}
 use Rattle.thumb_instr.specs.declared.operations.AluOp.TheVariants.{Add, Sub}
@@ -9,18 +9,17 @@ use Rattle.thumb_instr.specs.declared.refusals.ItPlace.TheVariants.{Outside}
 use Rattle.thumb_instr.specs.declared.instructions.Instr.{Instr}
 use Rattle.thumb_instr.specs.declared.instructions.Instr.TheVariants as instr
 use Rattle.thumb_instr.specs.Fields.{WideFields}
-use Rattle.thumb_instr.specs.Sets.{reads_of, sets_flags_of, writes_of}
+use Rattle.thumb_instr.specs.Sets.{reads_of, sets_flags_of}
 use Rattle.thumb_instr.specs.DataRows.{has_odd_sp, is_rrx, names}
 use Rattle.thumb_instr.specs.Formed.{DecodesFormed}
 use Rattle.thumb_encode.specs.HasFull.{has_full}
 use Rattle.seq_core.specs.Accepted.{DecodesKeepFlags, DecodesUseStack, takes_stack_once}
 use Rattle.seq_core.specs.Classes.{has_pc, steps_stack}
-use Rattle.seq_core.specs.Groups.{IsFree, moving, names_no_place, only}
+use Rattle.seq_core.specs.Groups.{IsFree, names_no_place, only}
 use Rattle.seq_core.specs.Sent.{destination, sent}
 use Rattle.seq_core.specs.Through.{has_one}
 use Rattle.seq_core.specs.Decoded.{ThroughDecodes}
 use Rattle.seq_core.specs.Replaced.{stack_stepped}
-use Rattle.seq_core.specs.Built.{as_steps}
 use Rattle.seq_core.specs.Builders.{FullCodesAreRows, HasRow, PlainStepsDo, loses}
 use Rattle.seq_core.specs.Coded.{MovesCoded}
 use Rattle.seq_stack.specs.Done.{IsDoneBy, StackStepsWork}
