@@ -10,7 +10,8 @@ use Rattle.thumb_instr.specs.declared.refusals.ItPlace.{ItPlace}
 use Rattle.thumb_instr.specs.declared.register_sets.RegSet.{RegSet}
 use Rattle.thumb_instr.specs.declared.instructions.Instr.TheVariants.{Pair, Multi}
 use Rattle.thumb_instr.specs.Fields.{PairFields, MultiFields}
-use Rattle.thumb_instr.specs.FullRows.{members, one_if}
+use Rattle.mark_word.specs.Formulas.{one_if}
+use Rattle.thumb_instr.specs.FullRows.{members}
 use Rattle.thumb_instr.specs.Operands.{has}
 use Rattle.thumb_instr.specs.Sets.{moves_pair_base, reads_of, writes_of}
 use Rattle.thumb_instr.specs.Rows.{decode}

@@ -16,7 +16,8 @@ use Rattle.thumb_instr.specs.Operands.{has}
 use Rattle.thumb_instr.specs.Sets.{is_source, moves_base, moves_pair_base, reads_of, writes_of}
 use Rattle.thumb_instr.specs.MaySet.{may_set_of}
 use Rattle.thumb_instr.specs.DataRows.{is_copy, takes_sp}
-use Rattle.thumb_instr.specs.FullRows.{members, one_if}
+use Rattle.mark_word.specs.Formulas.{one_if}
+use Rattle.thumb_instr.specs.FullRows.{members}
 use Rattle.thumb_instr.specs.Rows.{decode}
 use Rattle.seq_core.specs.declared.classes.Class.TheVariants.{Through}
 use Rattle.seq_core.specs.Classes.{IsOf, adds_or_subtracts}

@@ -8,7 +8,8 @@ use Rattle.thumb_instr.specs.declared.instructions.Instr.TheVariants.{Alu, Move,
 use Rattle.thumb_instr.specs.Sets.{is_store, keeps_bits, reads_of}
 use Rattle.seq_core.specs.declared.classes.Class.TheVariants as class
 use Rattle.seq_core.specs.Accepted.{operand_names_stack}
-use Rattle.seq_core.specs.Needs.{one_if, read_destinations}
+use Rattle.mark_word.specs.Formulas.{one_if}
+use Rattle.seq_core.specs.Needs.{read_destinations}
 use Rattle.seq_core.specs.Sent.{sent, unless}
 use Rattle.seq_core.specs.Groups.{moving, names_no_place, only}
 use Rattle.seq_core.specs.Through.{register_sum}

@@ -9,7 +9,7 @@ use Rattle.thumb_instr.specs.Operands.{has, is_list}
 use Rattle.thumb_instr.specs.Sets.{reads_of, writes_of}
 use Rattle.thumb_instr.specs.Meanings.{constant_of}
 use Rattle.thumb_instr.specs.Formed.{DecodesFormed}
-use Rattle.thumb_table.specs.Effects.{bytes_of, registers}
+use Rattle.thumb_table.specs.Effects.{transfer_size, registers}
 use Rattle.seq_core.specs.Accepted.{DecodesApart}
 use Rattle.seq_core.specs.Classes.{moves_list_base}
 use Rattle.seq_core.specs.Constants.{MovesAreConstants}
@@ -74,7 +74,7 @@ moved_down : Laws → (load : Bool) (n q : ℕ) (list : RegSet) → HasRow (movi
 moved_down laws load n q list row free =
     let i : Instr = moving_list load true n list in
     let p = parts laws load true n q list row free in
-    let bytes : ℕ = bytes_of list.0 false in
+    let bytes : ℕ = transfer_size list.0 false in
     let k = laws.constants bytes (moves_few list.0 false) in
     let low : q < 13 = free.low in
     record {
@@ -87,7 +87,7 @@ moved_up : Laws → (load : Bool) (n q : ℕ) (list : RegSet) → HasRow (moving
 moved_up laws load n q list row free =
     let i : Instr = moving_list load false n list in
     let p = parts laws load false n q list row free in
-    let bytes : ℕ = bytes_of list.0 false in
+    let bytes : ℕ = transfer_size list.0 false in
     let k = laws.constants bytes (moves_few list.0 false) in
     let low : q < 13 = free.low in
     record {

@@ -12,7 +12,7 @@ use Rattle.thumb_instr.specs.Meanings.{constant_of}
 use Rattle.thumb_instr.specs.HalfRows.{half_rows}
 use Rattle.thumb_instr.specs.Rows.{decode}
 use Rattle.thumb_instr.specs.Formed.{DecodesFormed}
-use Rattle.thumb_table.specs.Effects.{bytes_of, registers}
+use Rattle.thumb_table.specs.Effects.{transfer_size, registers}
 use Rattle.seq_core.specs.declared.steps.Goal.TheVariants.{Nowhere}
 use Rattle.seq_core.specs.Accepted.{DecodesUseStack, loads_pc_by_pop}
 use Rattle.seq_core.specs.Classes.{has_pc}
@@ -80,7 +80,7 @@ module _ (laws : Laws) (list : RegSet) (q : ℕ) (row : HasRow (returning list))
   known = is_return list.0 (laws.formed Outside row.first row.second (returning list) row.stands).fields link
 
   abbrev bytes : ℕ
-  bytes = bytes_of list.0 true
+  bytes = transfer_size list.0 true
 
   abbrev groups : List Effect
   groups = done (transfer_at true 13 lr (registers lr.0)) ∷ done (summing true q 13 (constant_of bytes)) ∷ done (moving false 13 q) ∷ jump_by 14 ∷ []

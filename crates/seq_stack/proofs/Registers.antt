@@ -8,7 +8,7 @@ use Rattle.std.proofs.lemmas.List.Sums.{length-filter, count_by-le-length}
 use Rattle.std.proofs.lemmas.List.Elements.{filter-append}
 use Rattle.std.proofs.lemmas.Bool.Decides.{nat_tests}
 use Rattle.thumb_instr.specs.Operands.{has, is_list}
-use Rattle.thumb_table.specs.Effects.{bytes_of, registers}
+use Rattle.thumb_table.specs.Effects.{transfer_size, registers}
 use Rattle.seq_core.specs.Constants.{is_move}
 
 abbrev low : List ℕ
@@ -19,7 +19,7 @@ unfolding registers
 few list = omega (arith, length-filter (λ r. has list r) (low ++ 14 ∷ []), count_by-le-length (λ r. has list r) (low ++ 14 ∷ []))
 
 -- a base moves by no more than 64 bytes
-pub moves_few : (list : ℕ) (pc : Bool) → is_move (bytes_of list pc) ≡ true
+pub moves_few : (list : ℕ) (pc : Bool) → is_move (transfer_size list pc) ≡ true
 moves_few list true = let f = few list in grind (arith, nat_tests)
 moves_few list false = let f = few list in grind (arith, nat_tests)
 
