@@ -52,3 +52,4 @@ pub mod Doing
 pub mod Plain
 pub mod Made
 pub mod StepsCoded
+pub mod CopiedDecodes

@@ -2,6 +2,7 @@
 
 ghost use Rattle.seq_core.specs.Bases.{BaseCopyListCarries, BaseCopyOneCarries, BaseCopyPairCarries, FlaggedProductCarries, PostAccessCarries, PostPairCarries, PreAccessCarries, PrePairCarries};
 ghost use Rattle.seq_core.specs.Calls.{DirectCallCarries, LinkCallCarries, RegisterCallCarries, RegisterJumpCarries, ZeroBranchCarries};
+ghost use Rattle.seq_core.specs.Decoded.{BaseCopyDecodes};
 ghost use Rattle.seq_core.specs.Stacks.{DownCarries, PopReturnCarries, UpCarries};
 ghost use Rattle.seq_core.specs.Sums.{LongSumCarries};
 
@@ -43,6 +44,11 @@ pub fn base_copies_of_pairs_work()
 /// The same for a list of the base alone.
 pub fn base_copies_of_one_work()
     ensures { BaseCopyOneCarries }
+{}
+
+/// Of what halfwords stand for only a free register is asked.
+pub fn decodes_copy_bases()
+    ensures { BaseCopyDecodes }
 {}
 
 /// A list that moves its base down: the base moves by way of a scratch register, and the list is at the base.
