@@ -5,11 +5,11 @@ use Rattle.std.proofs.lemmas.Nat.{pow_pos}
 use Rattle.std.specs.Prelude.{⊤, ◌&&◌, not, if◌then◌else◌}
 use Rattle.thumb_instr.specs.declared.instructions.Instr.{Instr}
 use Rattle.thumb_instr.specs.Patterns.{Bits, Fixed, Field, Made, Row, Answer, cut, fits, filled_in, decoded}
-use Rattle.seq_core.specs.Accepted.{keeps_base_apart, misplaces_stack, moves_by_byte}
+use Rattle.seq_core.specs.Accepted.{keeps_base_apart, misplaces_stack, moves_by_byte, tests_low_register}
 
--- An instruction has its base apart and moves it by a byte, and has sp where it may stand.
+-- An instruction has its base apart and moves it by a byte, has sp where it may stand, and tests a low register.
 abbrev pub tells : Answer → Bool
-tells (Ok i) = keeps_base_apart i && (not (misplaces_stack i) && moves_by_byte i)
+tells (Ok i) = tests_low_register i && (keeps_base_apart i && (not (misplaces_stack i) && moves_by_byte i))
 tells (Err k) = true
 
 abbrev pub Fill : (ps : List Bits) → Made ps → Type 0
@@ -44,14 +44,15 @@ decoded_tells size (r ∷ rows) h g = if_tells (fits r.pattern size h) _ _ (λ _
 
 -- what an instruction's answer tells
 abbrev pub IsTold : Instr → Type 0
-IsTold i = (keeps_base_apart i ≡ true) × (misplaces_stack i ≡ false) × (moves_by_byte i ≡ true)
+IsTold i = (keeps_base_apart i ≡ true) × (misplaces_stack i ≡ false) × (moves_by_byte i ≡ true) × (tests_low_register i ≡ true)
 
 pub told : (i : Instr) (a : Answer) → a ≡ Ok i → tells a ≡ true → IsTold i
-told i (Ok j) e t = let same : j ≡ i = cc in subst IsTold same (all (keeps_base_apart j) (misplaces_stack j) (moves_by_byte j) t)
+told i (Ok j) e t = let same : j ≡ i = cc in subst IsTold same (all (keeps_base_apart j) (misplaces_stack j) (moves_by_byte j) (tests_low_register j) t)
   where
-    all : (a b c : Bool) → (a && (not b && c)) ≡ true → (a ≡ true) × (b ≡ false) × (c ≡ true)
-    all true false true t = (refl, refl, refl)
-    all true false false t = cc
-    all true true c t = cc
-    all false b c t = cc
+    all : (a b c d : Bool) → (d && (a && (not b && c))) ≡ true → (a ≡ true) × (b ≡ false) × (c ≡ true) × (d ≡ true)
+    all true false true true t = (refl, refl, refl, refl)
+    all true false false true t = cc
+    all true true c true t = cc
+    all false b c true t = cc
+    all a b c false t = cc
 told i (Err k) e t = cc
