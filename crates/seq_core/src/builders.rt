@@ -12,6 +12,8 @@ use thumb_instr::{Instr, Reg};
 /// Builds the sequences of a class: each does its instruction under every schedule that executes one of any
 /// `copies` steps in a row.
 pub trait Builder {
+    ghost use Rattle.seq_core.specs.declared.classes.Class.{Class};
+
     /// The class whose sequences it builds.
     ghost builds: { Self → Class };
 
