@@ -7,7 +7,7 @@ use Rattle.thumb_instr.specs.Patterns.{decoded}
 use Rattle.thumb_instr.specs.HalfRows.{half_rows}
 use Rattle.thumb_instr.specs.FullRows.{full_rows}
 use Rattle.thumb_instr.specs.Rows.{is_wide, decode}
-use Rattle.seq_core.specs.Accepted.{DecodesApart, DecodesLoadSeveral, DecodesMoveByBytes, DecodesReach, DecodesUseStack}
+use Rattle.seq_core.specs.Accepted.{DecodesApart, DecodesLoadSeveral, DecodesMoveByBytes, DecodesReach, DecodesTestLow, DecodesUseStack}
 use Rattle.seq_core.proofs.RowsApart.{IsTold, tells, told, decoded_tells}
 use Rattle.seq_core.proofs.HalvesApart.{half_apart}
 use Rattle.seq_core.proofs.FullsApart.{full_apart}
@@ -33,3 +33,6 @@ decodes_load_several place first second i e = (told_of place first second i e).5
 
 pub decodes_reach : DecodesReach
 decodes_reach place first second i e = (told_of place first second i e).6
+
+pub decodes_test_low : DecodesTestLow
+decodes_test_low place first second i e = (told_of place first second i e).7

@@ -5,14 +5,14 @@ use Rattle.thumb_instr.specs.declared.conditions.Cond.{Cond}
 use Rattle.thumb_instr.specs.declared.conditions.Cond.TheVariants.{Eq, Ne, Cs, Cc, Mi, Pl, Vs, Vc, Hi, Ls, Ge, Lt, Gt, Le, Al}
 use Rattle.thumb_table.specs.Conditions.{holds, agree}
 use Rattle.thumb_instr.specs.Blocks.{it_after}
-use Rattle.thumb_table.specs.States.{Core, Change, Jumps, applied, unchanged}
+use Rattle.thumb_table.specs.States.{Core, Change, Exit, Falls, Jumps, applied, unchanged}
 use Rattle.thumb_table.specs.Effects.{branch_if}
 use Rattle.reloc_places.specs.Relocations.{may_fail}
 use Rattle.seq_core.specs.Meanings.{meant}
 use Rattle.seq_core.specs.Does.{Effect}
-use Rattle.seq_core.specs.Sequences.{Settles, Moves, Leads, Carries}
+use Rattle.seq_core.specs.Sequences.{Settles, Moves, Leads, Reaches, Carries}
 use Rattle.seq_core.specs.Guards.{inverse, GuardCarries, ConditionCarries}
-use Rattle.seq_core.specs.Groups.{always, branch_to}
+use Rattle.seq_core.specs.Groups.{branch_to}
 
 not_not : (b : Bool) → not (not b) ≡ b
 not_not true = refl
@@ -59,59 +59,57 @@ branch_passed c t y it h = rests_settled (branch_to c t) y it (branched c t y �
 pub branch_taken : (c : Cond) (t : ℕ) (y : Core) → y.it ≡ 0 → holds c y ≡ true → Leads (branch_to c t) y t y
 branch_taken c t y it h = jumps_away (branch_to c t) y t it (branched c t y ∙ ap (λ b. Ok (branch_if b t)) h)
 
-and_true : (a b : Bool) → b ≡ true → a ≡ (a && b)
-and_true true b e = sym e
-and_true false b e = refl
+both_true : (a b : Bool) → (a && b) ≡ true → (a ≡ true) × (b ≡ true)
+both_true true b e = (refl, e)
+both_true false b e = cc
 
 -- what settles moves
 pub moves_of : (e : Effect) (x y : Core) → Settles e x y → Moves e x y
 moves_of e x y s = record { made = s.first; makes = s.makes; falls = s.falls; comes = s.comes; clear = s.clear }
 
 module _ (Goes : Effect → Core → Core → Type 0) (rests_so : (e : Effect) (y : Core) → Settles e y y → Goes e y y) where
+  -- where the condition holds, the guard is passed
+  passed : (end : ℕ) (c : Cond) (y : Core) → may_fail c ≡ true → y.it ≡ 0 → holds c y ≡ true → Goes (branch_to (inverse c) end) y y
+  passed end c y may it t = rests_so (branch_to (inverse c) end) y (branch_passed (inverse c) end y it (inverse_holds c y may ∙ ap not t))
+
+  behind : (end : ℕ) (c : Cond) (y z : Core) (exit : Exit) (groups : List Effect) → may_fail c ≡ true → y.it ≡ 0 → holds c y ≡ true → Reaches Goes end groups y exit z → Reaches Goes end (branch_to (inverse c) end ∷ groups) y exit z
+  behind end c y z exit groups may it t r = record { out = r.out; chain = inl (y, passed end c y may it t, r.chain); there = r.there }
+
+  -- where it fails, control goes to the end
+  left : (end : ℕ) (c : Cond) (y : Core) (groups : List Effect) → may_fail c ≡ true → y.it ≡ 0 → holds c y ≡ false → Reaches Goes end (branch_to (inverse c) end ∷ groups) y Falls y
+  left end c y groups may it t = record { out = Jumps end; chain = inr (end, branch_taken (inverse c) end y it (inverse_holds c y may ∙ ap not t), refl); there = refl }
+
   pub guard_is_done : GuardCarries Goes
-  guard_is_done end c effect loses groups may s = record {
+  guard_is_done end c test effect loses groups may s = record {
     acts = λ y h b t m.
-        let i : holds (inverse c) y ≡ false = inverse_holds c y may ∙ ap not t in
-        let a = s.acts y h b refl m in
-        (a.0, record { out = a.1.out; chain = inl (y, rests_so (branch_to (inverse c) end) y (branch_passed (inverse c) end y b.clear i), a.1.chain); there = a.1.there }, a.2);
-    rests = λ y b t.
-        let i : holds (inverse c) y ≡ true = inverse_holds c y may ∙ ap not t in
-        record { out = Jumps end; chain = inr (end, branch_taken (inverse c) end y b.clear i, refl); there = refl };
+        let both = both_true (holds c y) (test y) t in
+        let a = s.acts y h b both.1 m in
+        (a.0, behind end c y a.0 h.exit groups may b.clear both.0 a.1, a.2);
+    rests = λ y b t. elim (holds c y) as (λ v. holds c y ≡ v → (v && test y) ≡ false → Reaches Goes end (branch_to (inverse c) end ∷ groups) y Falls y) [
+      | true ↦ λ k u. behind end c y y Falls groups may b.clear k (s.rests y b u)
+      | false ↦ λ k u. left end c y groups may b.clear k
+    ] refl t;
     halts = λ y b t m.
-        let i : holds (inverse c) y ≡ false = inverse_holds c y may ∙ ap not t in
-        inr (rests_so (branch_to (inverse c) end) y (branch_passed (inverse c) end y b.clear i), s.halts y b refl m);
+        let both = both_true (holds c y) (test y) t in
+        inr (passed end c y may b.clear both.0, s.halts y b both.1 m);
   }
-
-  -- a test that is the same
-  same_test : (end : ℕ) (t u : Core → Bool) (effect : Effect) (loses : ℕ → Bool) (groups : List Effect) → ((y : Core) → t y ≡ u y) → Carries Goes end t effect loses groups → Carries Goes end u effect loses groups
-  same_test end t u effect loses groups e s = record {
-    acts = λ y h b k m. s.acts y h b (e y ∙ k) m;
-    rests = λ y b k. s.rests y b (e y ∙ k);
-    halts = λ y b k m. s.halts y b (e y ∙ k) m;
-  }
-
-  under : (end : ℕ) (c : Cond) (test : Core → Bool) (effect : Effect) (loses : ℕ → Bool) (groups : List Effect) → may_fail c ≡ true → ((y : Core) → test y ≡ true) → Carries Goes end test effect loses groups →
-      Carries Goes end (λ y. holds c y && test y) effect loses (branch_to (inverse c) end ∷ groups)
-  under end c test effect loses groups may t s =
-      same_test end (λ y. holds c y) (λ y. holds c y && test y) effect loses (branch_to (inverse c) end ∷ groups) (λ y. and_true (holds c y) (test y) (t y))
-      (guard_is_done end c effect loses groups may (same_test end test always effect loses groups t s))
 
   pub at_condition : ConditionCarries Goes
-  at_condition end Al test effect loses groups t s = s
-  at_condition end Eq test effect loses groups t s = under end Eq test effect loses groups refl (t refl) s
-  at_condition end Ne test effect loses groups t s = under end Ne test effect loses groups refl (t refl) s
-  at_condition end Cs test effect loses groups t s = under end Cs test effect loses groups refl (t refl) s
-  at_condition end Cc test effect loses groups t s = under end Cc test effect loses groups refl (t refl) s
-  at_condition end Mi test effect loses groups t s = under end Mi test effect loses groups refl (t refl) s
-  at_condition end Pl test effect loses groups t s = under end Pl test effect loses groups refl (t refl) s
-  at_condition end Vs test effect loses groups t s = under end Vs test effect loses groups refl (t refl) s
-  at_condition end Vc test effect loses groups t s = under end Vc test effect loses groups refl (t refl) s
-  at_condition end Hi test effect loses groups t s = under end Hi test effect loses groups refl (t refl) s
-  at_condition end Ls test effect loses groups t s = under end Ls test effect loses groups refl (t refl) s
-  at_condition end Ge test effect loses groups t s = under end Ge test effect loses groups refl (t refl) s
-  at_condition end Lt test effect loses groups t s = under end Lt test effect loses groups refl (t refl) s
-  at_condition end Gt test effect loses groups t s = under end Gt test effect loses groups refl (t refl) s
-  at_condition end Le test effect loses groups t s = under end Le test effect loses groups refl (t refl) s
+  at_condition end Al test effect loses groups s = s
+  at_condition end Eq test effect loses groups s = guard_is_done end Eq test effect loses groups refl s
+  at_condition end Ne test effect loses groups s = guard_is_done end Ne test effect loses groups refl s
+  at_condition end Cs test effect loses groups s = guard_is_done end Cs test effect loses groups refl s
+  at_condition end Cc test effect loses groups s = guard_is_done end Cc test effect loses groups refl s
+  at_condition end Mi test effect loses groups s = guard_is_done end Mi test effect loses groups refl s
+  at_condition end Pl test effect loses groups s = guard_is_done end Pl test effect loses groups refl s
+  at_condition end Vs test effect loses groups s = guard_is_done end Vs test effect loses groups refl s
+  at_condition end Vc test effect loses groups s = guard_is_done end Vc test effect loses groups refl s
+  at_condition end Hi test effect loses groups s = guard_is_done end Hi test effect loses groups refl s
+  at_condition end Ls test effect loses groups s = guard_is_done end Ls test effect loses groups refl s
+  at_condition end Ge test effect loses groups s = guard_is_done end Ge test effect loses groups refl s
+  at_condition end Lt test effect loses groups s = guard_is_done end Lt test effect loses groups refl s
+  at_condition end Gt test effect loses groups s = guard_is_done end Gt test effect loses groups refl s
+  at_condition end Le test effect loses groups s = guard_is_done end Le test effect loses groups refl s
 
 pub guard_settles : GuardCarries Settles
 guard_settles = guard_is_done Settles (λ e y s. s)

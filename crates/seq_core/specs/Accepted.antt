@@ -146,6 +146,14 @@ DecodesReach = (place : ItPlace) (first second : ℕ) (i : Instr) → decode pla
 abbrev pub DecodesLoadSeveral : Type 0
 DecodesLoadSeveral = (place : ItPlace) (first second : ℕ) (i : Instr) → decode place first second ≡ Ok i → loads_several i ≡ true
 
+-- CBZ and CBNZ test one of the registers r0 to r7 (ARMv7-M ARM, A7.7.21).
+abbrev pub tests_low_register : Instr → Bool
+tests_low_register (ZeroBranch i) = nat_lt i.n 8
+tests_low_register i = true
+
+abbrev pub DecodesTestLow : Type 0
+DecodesTestLow = (place : ItPlace) (first second : ℕ) (i : Instr) → decode place first second ≡ Ok i → tests_low_register i ≡ true
+
 -- Nothing is both read and set. The flags of a branch's condition count as read, too, but a branch sets none.
 abbrev pub DecodesKeepFlags : Type 0
 DecodesKeepFlags = (place : ItPlace) (first second : ℕ) (i : Instr) → decode place first second ≡ Ok i → (k : ℕ) → (reads_of i k && may_set_of i k) ≡ false

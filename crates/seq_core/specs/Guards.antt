@@ -7,7 +7,7 @@ use Rattle.thumb_table.specs.Conditions.{holds}
 use Rattle.reloc_places.specs.Relocations.{may_fail}
 use Rattle.seq_core.specs.Does.{Effect}
 use Rattle.seq_core.specs.Sequences.{Carries}
-use Rattle.seq_core.specs.Groups.{always, branch_to}
+use Rattle.seq_core.specs.Groups.{branch_to}
 
 -- The inverse of a condition.
 abbrev pub inverse : Cond → Cond
@@ -27,10 +27,11 @@ inverse Gt = Le
 inverse Le = Gt
 inverse Al = Al
 
--- THE GUARD: a branch on the inverse condition to the sequence's end, before what does the instruction.
+-- THE GUARD: a branch on the inverse condition to the sequence's end, before what does the instruction under a test of
+-- its own.
 abbrev pub GuardCarries : (Effect → Core → Core → Type 0) → Type 0
-GuardCarries Goes = (end : ℕ) (c : Cond) (effect : Effect) (loses : ℕ → Bool) (groups : List Effect) → may_fail c ≡ true →
-    Carries Goes end always effect loses groups → Carries Goes end (λ y. holds c y) effect loses (branch_to (inverse c) end ∷ groups)
+GuardCarries Goes = (end : ℕ) (c : Cond) (test : Core → Bool) (effect : Effect) (loses : ℕ → Bool) (groups : List Effect) → may_fail c ≡ true →
+    Carries Goes end test effect loses groups → Carries Goes end (λ y. holds c y && test y) effect loses (branch_to (inverse c) end ∷ groups)
 
 -- A SEQUENCE AT A POINT: the body alone, or under a guard where the point has a condition.
 abbrev pub guarded : Cond → ℕ → List Effect → List Effect
@@ -40,5 +41,4 @@ guarded c end groups = branch_to (inverse c) end ∷ groups
 -- A sequence under an IT condition, beside a test of its own.
 abbrev pub ConditionCarries : (Effect → Core → Core → Type 0) → Type 0
 ConditionCarries Goes = (end : ℕ) (c : Cond) (test : Core → Bool) (effect : Effect) (loses : ℕ → Bool) (groups : List Effect) →
-    (may_fail c ≡ true → (y : Core) → test y ≡ true) →
     Carries Goes end test effect loses groups → Carries Goes end (λ y. holds c y && test y) effect loses (guarded c end groups)

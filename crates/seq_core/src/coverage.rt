@@ -1,7 +1,7 @@
 //! Laws of classes. The functions do nothing: their contracts are the laws.
 
 ghost use Rattle.std.specs.Prelude.{◌≡◌, ◌≤◌, false, true};
-ghost use Rattle.seq_core.specs.Accepted.{DecodesApart, DecodesKeepFlags, DecodesLoadSeveral, DecodesMoveByBytes, DecodesReach, DecodesUseStack, ThroughKeepsStack};
+ghost use Rattle.seq_core.specs.Accepted.{DecodesApart, DecodesKeepFlags, DecodesLoadSeveral, DecodesMoveByBytes, DecodesReach, DecodesTestLow, DecodesUseStack, ThroughKeepsStack};
 ghost use Rattle.seq_core.specs.Classes.{ClassesCover, ClassesApart};
 ghost use Rattle.seq_core.specs.Needs.{ThroughNeeds, NeedsFit};
 
@@ -20,11 +20,12 @@ pub fn needs_are_small()
 {}
 
 /// Whatever halfwords stand for has its base apart and sp where it may stand; so what goes through scratch
-/// registers leaves sp alone. An access moves its base by a number below 256.
+/// registers leaves sp alone. An access moves its base by a number below 256. CBZ and CBNZ test a register below r8.
 pub fn decodes_are_apart()
     ensures apart { DecodesApart }
     ensures through { ThroughKeepsStack }
     ensures bytes { DecodesMoveByBytes }
+    ensures low { DecodesTestLow }
 {}
 
 /// A list loads pc only as a pop without lr, and nothing is summed of sp and sp.

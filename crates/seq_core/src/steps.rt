@@ -96,6 +96,17 @@ impl Seq {
         self.landing += 1;
     }
 
+    /// Appends steps to a sequence without a landing.
+    pub fn push_all(&mut self, steps: &[Step])
+        requires room { length self.old.steps + length steps.now ≤ 8 }
+        requires open { self.old.landing ≡ length self.old.steps }
+        ensures { self.new ≡ record { steps = self.old.steps ++ steps.now; landing = self.old.landing + length steps.now } }
+    {
+        for step in steps {
+            self.push(*step);
+        }
+    }
+
     /// Appends a step as the landing, or behind it.
     pub fn land(&mut self, step: Step)
         requires { length self.old.steps < 8 }
@@ -103,5 +114,15 @@ impl Seq {
     {
         self.steps[self.len as usize] = step;
         self.len += 1;
+    }
+
+    /// Appends steps as the landing, or behind it.
+    pub fn land_all(&mut self, steps: &[Step])
+        requires { length self.old.steps + length steps.now ≤ 8 }
+        ensures { self.new ≡ record self.old { steps = self.old.steps ++ steps.now } }
+    {
+        for step in steps {
+            self.land(*step);
+        }
     }
 }

@@ -1,4 +1,4 @@
-use Rattle.seq_core.proofs.DecodesApart.{decodes_apart, decodes_by_bytes}
+use Rattle.seq_core.proofs.DecodesApart.{decodes_apart, decodes_by_bytes, decodes_test_low}
 use Rattle.seq_core.proofs.StackKept.{through_keeps_stack}
 use Rattle.seq_core.proofs.coverage.decodes_are_apart.Goals as goal
 
@@ -10,3 +10,6 @@ returns-clause-through c = through_keeps_stack
 
 pub returns-clause-bytes : goal.returns-clause-bytes
 returns-clause-bytes c = decodes_by_bytes
+
+pub returns-clause-low : goal.returns-clause-low
+returns-clause-low c = decodes_test_low

@@ -1,0 +1,192 @@
+//! Calls, jumps to registers, branches on zero, and sequences under guards.
+
+use crate::building::{builds, built, codes, found, told};
+use elf_model::{Bytes, Home, Limit, Name, Object, Section, Symbol, object, within};
+use flow_recover::{Flow, recover};
+use it_expand::{expand, guarded};
+use seq_calls::{DirectCall, RegisterCall, RegisterJump, ZeroBranch, with_landing};
+use seq_core::{Builder, Class, Goal, Seq, Step};
+use std::alloc::{AllocError, Global};
+use std::process::Abort;
+use thumb_instr::Cond;
+
+/// Codes, scratch registers and copies, and what comes of them.
+type Row = (u32, &'static [u8], u8, &'static str);
+
+const CALLS: [Row; 2] = [
+    (
+        0xF7FF_FFFE,
+        &[],
+        2,
+        "- f20f0e00 Landing 2; e000 f000b800 Target 2; 2",
+    ),
+    (
+        0xF000_F802,
+        &[],
+        4,
+        "- f20f0e00 Landing 4; e000 f000b800 Target 4; 2",
+    ),
+];
+
+const REGISTER_CALLS: [Row; 2] = [
+    (0x4798, &[], 2, "- f20f0e00 Landing 2; 4718 - Nowhere 2; 2"),
+    (
+        0x47F0,
+        &[12],
+        3,
+        "46f4 ea4f0c0e Nowhere 3; - f20f0e00 Landing 3; 4760 - Nowhere 3; 3",
+    ),
+];
+
+const JUMPS: [Row; 2] = [
+    (0x4770, &[], 2, "4770 - Nowhere 2; 1"),
+    (0x4718, &[], 2, "4718 - Nowhere 2; 1"),
+];
+
+const ZERO_BRANCHES: [Row; 2] = [
+    (0xB100, &[], 2, "b900 - End 2; e000 f000b800 Target 2; 2"),
+    (0xB90F, &[], 2, "b107 - End 2; e000 f000b800 Target 2; 2"),
+];
+
+#[test]
+fn builds_calls_and_branches(rt: HostRuntime) {
+    for row in &CALLS {
+        builds(&rt, rt.alloc(), &DirectCall, row.0, row.1, row.2, row.3);
+    }
+    for row in &REGISTER_CALLS {
+        builds(&rt, rt.alloc(), &RegisterCall, row.0, row.1, row.2, row.3);
+    }
+    for row in &JUMPS {
+        builds(&rt, rt.alloc(), &RegisterJump, row.0, row.1, row.2, row.3);
+    }
+    for row in &ZERO_BRANCHES {
+        builds(&rt, rt.alloc(), &ZeroBranch, row.0, row.1, row.2, row.3);
+    }
+}
+
+#[test]
+fn names_classes_and_needs(rt: HostRuntime) {
+    assert_eq!(rt; DirectCall.class(), Class::DirectCall);
+    assert_eq!(rt; RegisterCall.class(), Class::RegisterCall);
+    assert_eq!(rt; RegisterJump.class(), Class::RegisterJump);
+    assert_eq!(rt; ZeroBranch.class(), Class::ZeroBranch);
+}
+
+/// BL whose return is to nowhere.
+#[test]
+fn adds_landings(rt: HostRuntime) {
+    let i = found(&rt, 0xF7FF_FFFE);
+    let s = built(&rt, &DirectCall, &i, &[], 2);
+    let landing = with_landing(&s, 2);
+    let text = told(rt.alloc(), &landing).expect(&rt, "memory");
+    assert_eq!(rt;
+        text.as_str(),
+        "- f20f0e00 Landing 2; e000 f000b800 Target 2; de00 - Nowhere 2; 2"
+    );
+    let under = guarded(&landing, Cond::Ne, 2);
+    let text = told(rt.alloc(), &under).expect(&rt, "memory");
+    assert_eq!(rt;
+        text.as_str(),
+        "d100 f0408000 End 2; - f20f0e00 Landing 2; e000 f000b800 Target 2; de00 - Nowhere 2; 3"
+    );
+}
+
+/// A function of these halfwords alone.
+fn function(alloc: Global, halves: &[u16]) -> Result<Option<Object>, AllocError> {
+    let mut bytes = Vec::new(alloc);
+    for half in halves {
+        bytes.extend_from_slice(&half.to_le_bytes())?;
+    }
+    let size = (bytes.len() & 0xFFFF) as u32;
+    let section = Section {
+        name: Name::new(Vec::from_slice(alloc, b".text")?),
+        kind: 1,
+        flags: 6,
+        align: 4,
+        entry: 0,
+        size,
+        bytes: Bytes::new(bytes),
+    };
+    let code = Symbol {
+        name: Name::new(Vec::from_slice(alloc, b"$t")?),
+        value: 0,
+        size: 0,
+        bind: 0,
+        kind: 0,
+        other: 0,
+        home: Home::Section(0),
+    };
+    let start = Symbol {
+        name: Name::new(Vec::from_slice(alloc, b"f")?),
+        value: 1,
+        size: 0,
+        bind: 1,
+        kind: 2,
+        other: 0,
+        home: Home::Section(0),
+    };
+    let sections = vec![in alloc; section]?;
+    let symbols = vec![in alloc; code, start]?;
+    Ok(object(sections, symbols, Vec::new(alloc), 0x0500_0000))
+}
+
+fn flow_of(rt: &impl Abort, alloc: Global, halves: &[u16]) -> Flow {
+    let o = function(alloc, halves)
+        .expect(rt, "memory")
+        .expect(rt, "an object");
+    assert!(rt; within(&o, &Limit::ANY));
+    recover(alloc, &o).expect(rt, "a flow")
+}
+
+/// The guards and bodies of a flow.
+fn expansion(alloc: Global, f: &Flow) -> Result<String, AllocError> {
+    let mut text = String::new(alloc);
+    for x in &expand(alloc, f)? {
+        match x.guard {
+            None => {}
+            Some(c) => text.push_str(&format!(in alloc; "{c:?} ")?)?,
+        }
+        match x.body {
+            None => text.push_str("none; ")?,
+            Some(i) => text.push_str(&format!(in alloc; "{}; ", codes(alloc, &i)?)?)?,
+        }
+    }
+    Ok(text)
+}
+
+const FLOWS: [(&'static [u16], &'static str); 3] = [
+    (&[0x2005, 0x4770], "2005 f05f0005; 4770 -; "),
+    (
+        &[0x2900, 0xBF08, 0x2001, 0x4770],
+        "2900 f1b10f00; none; Ne - f04f0001; 4770 -; ",
+    ),
+    (
+        &[0x2800, 0xBF04, 0x2900, 0x2001, 0x4770],
+        "2800 f1b00f00; none; Ne 2900 f1b10f00; Ne - f04f0001; 4770 -; ",
+    ),
+];
+
+#[test]
+fn expands_blocks(rt: HostRuntime) {
+    for row in &FLOWS {
+        let f = flow_of(&rt, rt.alloc(), row.0);
+        let text = expansion(rt.alloc(), &f).expect(&rt, "memory");
+        assert_eq!(rt; text.as_str(), row.1);
+    }
+}
+
+/// A body of one step under its guard.
+#[test]
+fn guards_bodies(rt: HostRuntime) {
+    let mut s = Seq::new();
+    s.push(Step {
+        instr: found(&rt, 0xF04F_0001),
+        goal: Goal::Nowhere,
+        copies: 2,
+    });
+    let text = told(rt.alloc(), &guarded(&s, Cond::Ne, 2)).expect(&rt, "memory");
+    assert_eq!(rt;
+        text.as_str(),
+        "d100 f0408000 End 2; - f04f0001 Nowhere 2; 2"
+    );
+}
