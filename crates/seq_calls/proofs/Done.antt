@@ -19,7 +19,7 @@ use Rattle.seq_core.specs.Sequences.{Carries, Settles}
 use Rattle.seq_core.specs.Groups.{always, only, call_by, link_to, jump_by, done, moving}
 use Rattle.seq_core.specs.Calls.{DirectCallCarries, RegisterCallCarries, LinkCallCarries, RegisterJumpCarries, ZeroBranchCarries}
 use Rattle.seq_core.specs.Denoted.{Spots, groups_of}
-use Rattle.seq_core.specs.Needs.{one_if}
+use Rattle.mark_word.specs.Formulas.{one_if}
 use Rattle.seq_core.specs.Replaced.{called, register_called, leading, zero_branched}
 use Rattle.seq_core.specs.Builders.{AreCoded, AreFree, CanBuild, Do, StepsDo, HasRow, loses, meaning, own_test}
 use Rattle.seq_calls.proofs.Coded.{link_row, branch_row, jump_row, copy_row, zero_row}
