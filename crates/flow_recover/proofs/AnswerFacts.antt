@@ -1,9 +1,6 @@
 -- What a test says, an option of what is found, and a call that succeeds.
 use Rattle.std.proofs.Common.{◌≡◌, ◌↔◌, Bool, true, false, not, refl, sym, ap, ◌∙◌, subst, Option, Some, None, Ok, Err, IfSome, OnOk, Result}
 use Rattle.std.proofs.lemmas.Option.{none-some, same_Some}
-use Rattle.thumb_instr.specs.declared.instructions.Instr.{Instr}
-use Rattle.thumb_instr.specs.declared.refusals.BadInstr.{BadInstr}
-use Rattle.thumb_instr.specs.Rows.{Answer}
 
 pub not_true : (b : Bool) → not b ≡ true → b ≡ false
 not_true true t = sym t
@@ -36,17 +33,6 @@ this_of P y h = (h y).0 refl
 
 pub one_of : {X : Type 0} (P : X → Type 0) (y : X) → ((x : X) → (Some y ≡ Some x) ↔ P x) → (x : X) → P x → y ≡ x
 one_of P y h x p = same_Some y x ((h x).1 p)
-
--- the instruction of an answer
-module _ (F : Answer → Type 0) where
-  pub no_answer : ((a : Answer) → (None ≡ Some a) ↔ F a) → (i : Instr) → (None ≡ Some i) ↔ F (Ok i)
-  no_answer h = none_is (λ i. F (Ok i)) (λ i p. none_of F h (Ok i) p)
-
-  pub bad_answer : (a : Answer) (b : BadInstr) → a ≡ Err b → ((x : Answer) → (Some a ≡ Some x) ↔ F x) → (i : Instr) → (None ≡ Some i) ↔ F (Ok i)
-  bad_answer a b e h = none_is (λ i. F (Ok i)) (λ i p. let same = one_of F a h (Ok i) p in cc)
-
-  pub good_answer : (a : Answer) (j : Instr) → a ≡ Ok j → ((x : Answer) → (Some a ≡ Some x) ↔ F x) → (i : Instr) → (Some j ≡ Some i) ↔ F (Ok i)
-  good_answer a j e h = some_is (λ i. F (Ok i)) j (subst F e (this_of F a h)) (λ i p. let same : a ≡ Ok i = one_of F a h (Ok i) p in cc)
 
 -- what holds where a call succeeds, from what it ensures
 pub if_done : {X E : Type 0} (r : Result X E) (P Q : Type 0) → OnOk r P → (P → Q) → OnOk r Q

@@ -13,14 +13,17 @@ use Rattle.thumb_instr.specs.declared.instructions.Instr.TheVariants as instr
 use Rattle.thumb_instr.specs.Fields.{ItFields}
 use Rattle.flow_recover.specs.declared.blocks.Block.{Block}
 use Rattle.flow_recover.specs.declared.nodes.Node.{Node}
+use Rattle.flow_recover.specs.declared.visits.Visit.{Visit}
 use Rattle.reloc_places.specs.Starts.{bytes_of, IsCodeStart, behind, following}
-use Rattle.flow_recover.specs.Reach.{IsFound, IsReached}
+use Rattle.flow_recover.specs.Reach.{IsFound}
+use Rattle.flow_recover.specs.Visits.{AreVisits}
 use Rattle.flow_recover.specs.FlowFaults.{block_length, IsInBlock}
 use Rattle.flow_recover.specs.Gains.{has_place, PlacesGain, IsFrom}
 use Rattle.flow_recover.specs.NodeFaults.{mask_of, IsBlock, IsBelow, IsMember, IsBlockPlace, IsCut}
 use Rattle.elf_model.proofs.Elements.{contains_cases, contains_here, contains_later, contains_none}
 use Rattle.flow_recover.proofs.AnswerFacts.{not_true, none_is, some_is, none_of, this_of, one_of}
 use Rattle.flow_recover.proofs.GainFacts.{gain_none, gain_same}
+use Rattle.flow_recover.proofs.VisitFacts.{visited}
 
 record HasMask (i : Instr) (mask : ℕ) : Type 0 where
   it : ItFields
@@ -47,9 +50,6 @@ module _ (o : ObjectParts) (n : Node) where
 
   abbrev pub Blocks : Option Block → Type 0
   Blocks r = (b : Block) → (r ≡ Some b) ↔ IsBlock o n b
-
-  pub no_instr_block : Instrs None → Blocks None
-  no_instr_block h = none_is (IsBlock o n) (λ b p. none_of (λ i. IsFound o n (Ok i)) h (instr.It p.it) p.found)
 
   pub no_mask_block : (i : Instr) → Instrs (Some i) → mask_of i ≡ None → Blocks None
   no_mask_block i h e = none_is (IsBlock o n) (λ b p. let same : i ≡ instr.It p.it = one_of (λ k. IsFound o n (Ok k)) i h (instr.It p.it) p.found in none-some p.it.mask (sym e ∙ ap mask_of same))
@@ -85,12 +85,12 @@ module _ (o : ObjectParts) (n : Node) where
   )
 
   -- the places of the block
-  pub no_places : (places : BTreeSet (ℕ × ℕ)) → Blocks None → PlacesGain (IsBlockPlace o n) places places
-  no_places places h j x = gain_none (has_place places j x ≡ true) (IsBlockPlace o n j x) (λ p. none_of (IsBlock o n) h p.block p.is_block)
+  pub no_places : (places : BTreeSet (ℕ × ℕ)) → Blocks None → PlacesGain (λ j x. IsBlockPlace o n (j, x)) places places
+  no_places places h j x = gain_none (has_place places j x ≡ true) (IsBlockPlace o n (j, x)) (λ p. none_of (IsBlock o n) h p.block p.is_block)
 
   pub block_grows : (bytes : List ℕ) (b : Block) (old new : BTreeSet (ℕ × ℕ)) → Blocks (Some b) → bytes ≡ bytes_of o n.section
-      → PlacesGain (λ j x. (n.section ≡ j) × IsMember bytes b x) old new → PlacesGain (IsBlockPlace o n) old new
-  block_grows bytes b old new h e g j x = gain_same (has_place new j x ≡ true) (has_place old j x ≡ true) ((n.section ≡ j) × IsMember bytes b x) (IsBlockPlace o n j x)
+      → PlacesGain (λ j x. (n.section ≡ j) × IsMember bytes b x) old new → PlacesGain (λ j x. IsBlockPlace o n (j, x)) old new
+  block_grows bytes b old new h e g j x = gain_same (has_place new j x ≡ true) (has_place old j x ≡ true) ((n.section ≡ j) × IsMember bytes b x) (IsBlockPlace o n (j, x))
       (λ p. record { block = b; is_block = this_of (IsBlock o n) b h; section = p.0; member = subst (λ (l : List ℕ). IsMember l b x) (e ∙ ap (bytes_of o) p.0) p.1 })
       (λ p. (p.section, subst (λ (l : List ℕ). IsMember l b x) (sym (e ∙ ap (bytes_of o) p.section)) (subst (λ (d : Block). IsMember (bytes_of o j) d x) (sym (one_of (IsBlock o n) b h p.block p.is_block)) p.member)))
       (g j x)
@@ -225,36 +225,38 @@ pub below_none : (places : BTreeSet (ℕ × ℕ)) (section at end : ℕ) → end
 below_none places section at end high j x = gain_none (has_place places j x ≡ true) (IsBelow section at end j x) (λ p. let e = p.same_offset in let r = p.in_range in omega (arith, e, r))
 
 -- the places of all blocks are those in blocks
-module _ (o : ObjectParts) (nodes : List Node) (reached : (n : Node) → Contains nodes n ↔ IsReached o n) where
-  in_block : (j x : ℕ) → IsFrom (λ n (p : ℕ × ℕ). IsBlockPlace o n p.0 p.1) nodes (j, x) → IsInBlock o j x
+module _ (o : ObjectParts) (visits : List Visit) (seen : AreVisits o visits) where
+  in_block : (j x : ℕ) → IsFrom (λ (v : Visit). IsBlockPlace o v.node) visits (j, x) → IsInBlock o j x
   in_block j x e =
-      let p : IsBlockPlace o e.source j x = e.gives in
+      let v : Visit = e.source in
+      let p : IsBlockPlace o v.node (j, x) = e.gives in
       let b = p.is_block in
       record {
-        node = e.source;
+        node = v.node;
         it = b.it;
-        reached = (reached e.source).0 e.there;
+        reached = seen.reached v e.there;
         found = b.found;
         section = p.section;
-        member = subst (λ (c : ℕ). Contains (following (bytes_of o j) c (behind o j e.source.offset)) x) b.count
-            (subst (λ (a : ℕ). Contains (following (bytes_of o j) p.block.count a) x) (b.start ∙ ap (λ (s : ℕ). behind o s e.source.offset) p.section) p.member.follows);
+        member = subst (λ (c : ℕ). Contains (following (bytes_of o j) c (behind o j v.node.offset)) x) b.count
+            (subst (λ (a : ℕ). Contains (following (bytes_of o j) p.block.count a) x) (b.start ∙ ap (λ (s : ℕ). behind o s v.node.offset) p.section) p.member.follows);
         in_range = subst (λ (z : ℕ). x < z) b.end p.member.in_range;
       }
 
-  block_in : (j x : ℕ) → IsInBlock o j x → IsFrom (λ n (p : ℕ × ℕ). IsBlockPlace o n p.0 p.1) nodes (j, x)
+  block_in : (j x : ℕ) → IsInBlock o j x → IsFrom (λ (v : Visit). IsBlockPlace o v.node) visits (j, x)
   block_in j x i =
       let block : Block = record { start = behind o i.node.section i.node.offset; end = i.found.end; count = block_length i.it.mask } in
       let follows : Contains (following (bytes_of o j) block.count block.start) x =
       subst (λ (s : ℕ). Contains (following (bytes_of o j) block.count (behind o s i.node.offset)) x) (sym i.section) i.member in
-      let gives : IsBlockPlace o i.node j x = record {
+      let gives : IsBlockPlace o i.node (j, x) = record {
         block = block;
         is_block = record { it = i.it; found = i.found; start = refl; end = refl; count = refl };
         section = i.section;
         member = record { follows = follows; in_range = i.in_range };
       } in
-      record { source = i.node; there = (reached i.node).1 i.reached; gives = gives }
+      let w = visited o visits (λ n k. IsBlockPlace o n (j, x)) i.node (instr.It i.it) seen (record { reached = i.reached; found = i.found }) gives in
+      record { source = w.0; there = w.1; gives = w.3 }
 
-  pub all_blocks : (none all : BTreeSet (ℕ × ℕ)) → ((j x : ℕ) → has_place none j x ≡ true → ⊥) → PlacesGain (λ j x. IsFrom (λ n (p : ℕ × ℕ). IsBlockPlace o n p.0 p.1) nodes (j, x)) none all
+  pub all_blocks : (none all : BTreeSet (ℕ × ℕ)) → ((j x : ℕ) → has_place none j x ≡ true → ⊥) → PlacesGain (λ j x. IsFrom (λ (v : Visit). IsBlockPlace o v.node) visits (j, x)) none all
       → (j x : ℕ) → (has_place all j x ≡ true) ↔ IsInBlock o j x
   all_blocks none all empty g j x = (
     λ h. elim ((g j x).0 h) [ inl h ↦ absurd (empty j x h) | inr e ↦ in_block j x e ],

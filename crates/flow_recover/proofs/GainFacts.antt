@@ -54,10 +54,6 @@ gains_one P xs x is only y = gain_same (Contains (xs ++ x ∷ []) y) (Contains x
 pub gains_none : {Y : Type 0} (P : Y → Type 0) (xs : List Y) → ((y : Y) → P y → ⊥) → Gains P xs xs
 gains_none P xs never y = gain_none (Contains xs y) (P y) (never y)
 
--- an element that is pushed on a condition
-pub gains_if : {Y : Type 0} (P : Y → Type 0) (Q : Type 0) (xs new : List Y) (x : Y) → ((y : Y) → P y ↔ (Q × (y ≡ x))) → Q → new ≡ xs ++ x ∷ [] → Gains P xs new
-gains_if P Q xs new x tells q made = subst (Gains P xs) (sym made) (gains_one P xs x ((tells x).1 (q, refl)) (λ y p. sym ((tells y).0 p).1))
-
 -- the same property in other words
 pub gains_as : {Y : Type 0} (P Q : Y → Type 0) (xs new : List Y) → ((y : Y) → P y ↔ Q y) → Gains P xs new → Gains Q xs new
 gains_as P Q xs new same gains y = gain_same (Contains new y) (Contains xs y) (P y) (Q y) (same y).0 (same y).1 (gains y)
@@ -126,6 +122,9 @@ module _ {X Y : Type 0} (P : X → Y → Type 0) (xs : List X) where
   turn_all A B i y high g = subst (λ (l : List X). Gain B A (IsFrom P l y)) (take_all i xs high) g
 
   -- the turns of a loop that adds to a list
+  pub gains_start : (old : List Y) → Gains (IsFrom P []) old old
+  gains_start old y = gain_none (Contains old y) (IsFrom P [] y) (from_none P y)
+
   pub gains_more : (i : ℕ) (d : X) (old now new : List Y) → i < length xs → Gains (IsFrom P (take i xs)) old now → Gains (P (get_or xs i d)) now new → Gains (IsFrom P (take (i + 1) xs)) old new
   gains_more i d old now new low before turn y = turn_more (Contains old y) (Contains now y) (Contains new y) i d y low (before y) (turn y)
 
@@ -147,6 +146,10 @@ module _ {X : Type 0} (P : X → ℕ × ℕ → Type 0) (xs : List X) where
   pub places_more : (i : ℕ) (d : X) (old now new : BTreeSet (ℕ × ℕ)) → i < length xs → PlacesGain (λ j x. IsFrom P (take i xs) (j, x)) old now → PlacesGain (λ j x. P (get_or xs i d) (j, x)) now new
       → PlacesGain (λ j x. IsFrom P (take (i + 1) xs) (j, x)) old new
   places_more i d old now new low before turn j x = turn_more P xs (has_place old j x ≡ true) (has_place now j x ≡ true) (has_place new j x ≡ true) i d (j, x) low (before j x) (turn j x)
+
+  pub places_item : (i : ℕ) (z : X) (old now new : BTreeSet (ℕ × ℕ)) → i < length xs → z ≡ get_or xs i z → PlacesGain (λ j x. IsFrom P (take i xs) (j, x)) old now → PlacesGain (λ j x. P z (j, x)) now new
+      → PlacesGain (λ j x. IsFrom P (take (i + 1) xs) (j, x)) old new
+  places_item i z old now new low is before turn = places_more i z old now new low before (subst (λ (y : X). PlacesGain (λ j x. P y (j, x)) now new) is turn)
 
   pub places_all : (i : ℕ) (old new : BTreeSet (ℕ × ℕ)) → length xs ≤ i → PlacesGain (λ j x. IsFrom P (take i xs) (j, x)) old new → PlacesGain (λ j x. IsFrom P xs (j, x)) old new
   places_all i old new high before j x = turn_all P xs (has_place old j x ≡ true) (has_place new j x ≡ true) i (j, x) high (before j x)

@@ -1,5 +1,7 @@
 pub mod NodeOrder
 pub mod FoundFacts
+pub mod GainFacts
+pub mod VisitFacts
 pub mod Searches
 pub mod LiteralFacts
 mod DeadEndFacts
@@ -11,7 +13,6 @@ pub mod PointCount
 pub mod EdgeFacts
 pub mod PointFacts
 pub mod RightRelocs
-pub mod GainFacts
 pub mod NamedFacts
 pub mod RelocSpots
 mod AnswerFacts
@@ -19,7 +20,6 @@ mod BlockFacts
 mod ClaimFacts
 mod NodeFaultFacts
 mod FlowFaultFacts
-mod EntryFacts
 pub mod EntryIndexes
 pub mod WholeFlowFacts
 pub mod OneFlow

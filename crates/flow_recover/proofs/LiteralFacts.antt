@@ -9,14 +9,16 @@ use Rattle.std.proofs.lemmas.Option.{none-some, same_Some}
 use Rattle.elf_model.specs.Objects.{ObjectParts}
 use Rattle.thumb_instr.specs.declared.instructions.Instr.{Instr}
 use Rattle.flow_recover.specs.declared.nodes.Node.{Node}
+use Rattle.flow_recover.specs.declared.visits.Visit.{Visit}
 use Rattle.flow_recover.specs.Reach.{IsFound}
-use Rattle.flow_recover.specs.Charts.{AreNodes}
+use Rattle.flow_recover.specs.Visits.{AreVisits}
 use Rattle.flow_recover.specs.Gains.{has_place, PlacesGain, IsFrom}
-use Rattle.flow_recover.proofs.AnswerFacts.{none_is, none_of, this_of, one_of}
+use Rattle.flow_recover.proofs.AnswerFacts.{this_of, one_of}
 use Rattle.flow_recover.proofs.GainFacts.{gain_none, gain_same}
 use Rattle.flow_recover.specs.Settled.{IsNamedBy, IsLoad, IsLoadedPlace, ArePlaces}
 use Rattle.code_ranges.specs.Spans.{place_cmp}
 use Rattle.code_ranges.proofs.PlaceOrder.{place_total, place_exact}
+use Rattle.flow_recover.proofs.VisitFacts.{visited}
 
 -- a load is what stands at a node and names a place
 pub load_from : (o : ObjectParts) (n : Node) (i : Instr) (r : Option (ℕ × ℕ)) → ((k : Instr) → (Some i ≡ Some k) ↔ IsFound o n (Ok k)) → ((p : ℕ × ℕ) → (r ≡ Some p) ↔ IsNamedBy n i p) → (p : ℕ × ℕ) → (r ≡ Some p) ↔ IsLoad o n p
@@ -24,9 +26,6 @@ load_from o n i r found named p = (
   λ h. record { instr = i; found = this_of (λ k. IsFound o n (Ok k)) i found; names = (named p).0 h },
   λ l. (named p).1 (subst (λ (k : Instr). IsNamedBy n k p) (sym (one_of (λ k. IsFound o n (Ok k)) i found l.instr l.found)) l.names),
 )
-
-pub no_load : (o : ObjectParts) (n : Node) → ((k : Instr) → (None ≡ Some k) ↔ IsFound o n (Ok k)) → (p : ℕ × ℕ) → (None ≡ Some p) ↔ IsLoad o n p
-no_load o n found = none_is (IsLoad o n) (λ p l. none_of (λ k. IsFound o n (Ok k)) found l.instr l.found)
 
 -- the places that a node's load gives
 pub with_place : (o : ObjectParts) (n : Node) (q : ℕ × ℕ) (old new : BTreeSet (ℕ × ℕ)) → ((p : ℕ × ℕ) → (Some q ≡ Some p) ↔ IsLoad o n p) → PlacesGain (λ j x. (q.0 ≡ j) × (q.1 ≡ x)) old new → PlacesGain (λ j x. IsLoad o n (j, x)) old new
@@ -38,15 +37,17 @@ with_place o n q old new load more j x = gain_same (has_place new j x ≡ true) 
 pub without_place : (o : ObjectParts) (n : Node) (places : BTreeSet (ℕ × ℕ)) → ((p : ℕ × ℕ) → (None ≡ Some p) ↔ IsLoad o n p) → PlacesGain (λ j x. IsLoad o n (j, x)) places places
 without_place o n places none j x = gain_none (has_place places j x ≡ true) (IsLoad o n (j, x)) (λ l. none-some (j, x) ((none (j, x)).1 l))
 
--- after the last node they are all
-pub all_loaded : (o : ObjectParts) (nodes : List Node) (none all : BTreeSet (ℕ × ℕ)) → AreNodes o nodes → ((j x : ℕ) → has_place none j x ≡ true → ⊥) → PlacesGain (λ j x. IsFrom (IsLoad o) nodes (j, x)) none all
+-- after the last one they are all
+pub all_loaded : (o : ObjectParts) (visits : List Visit) (none all : BTreeSet (ℕ × ℕ)) → AreVisits o visits → ((j x : ℕ) → has_place none j x ≡ true → ⊥) → PlacesGain (λ j x. IsFrom (λ (v : Visit). IsLoad o v.node) visits (j, x)) none all
     → (p : ℕ × ℕ) → (contains place_cmp all p ≡ true) ↔ IsLoadedPlace o p
-all_loaded o nodes none all are empty g p = (
+all_loaded o visits none all seen empty g p = (
   λ h. elim ((g p.0 p.1).0 h) [
     | inl n ↦ absurd (empty p.0 p.1 n)
-    | inr f ↦ record { node = f.source; reached = (are.exact f.source).0 f.there; load = f.gives }
+    | inr f ↦ let v : Visit = f.source in record { node = v.node; reached = seen.reached v f.there; load = f.gives }
   ],
-  λ l. (g p.0 p.1).1 (inr (record { source = l.node; there = (are.exact l.node).1 l.reached; gives = l.load })),
+  λ l.
+      let w = visited o visits (λ n k. IsLoad o n p) l.node l.load.instr seen (record { reached = l.reached; found = l.load.found }) l.load in
+      (g p.0 p.1).1 (inr (record { source = w.0; there = w.1; gives = w.3 })),
 )
 
 -- the words at one place more

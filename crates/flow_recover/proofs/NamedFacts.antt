@@ -14,7 +14,7 @@ use Rattle.code_ranges.specs.CodeRanges.{holds_code}
 use Rattle.flow_recover.specs.Aims.{is_entry, IsNamed}
 use Rattle.flow_recover.specs.Aims.IsNamed.{by_symbol, by_address, by_branch}
 use Rattle.flow_recover.specs.Gains.{Gains, IsFrom}
-use Rattle.flow_recover.specs.NamedClaims.{code_home, IsAddress, IsFarTarget, claim_by, own_claim, IsAddressClaim, IsBranchClaim, claim_in, entry_claim, IsEntryClaim}
+use Rattle.flow_recover.specs.NamedClaims.{code_home, IsAddress, IsFarTarget, claim_by, own_claim, IsAddressClaim, IsBranchClaim, IsRelocClaim, claim_in, entry_claim, IsEntryClaim}
 use Rattle.flow_recover.specs.Charts.{AreNamed}
 use Rattle.elf_model.proofs.Elements.{contains_none, contains_at, place_of}
 use Rattle.flow_recover.proofs.GainFacts.{Tells, gains_some, gains_nothing}
@@ -49,27 +49,24 @@ module _ (o : ObjectParts) (r : Reloc) (answer : Option Address) where
   branch_none xs h e = gains_nothing (IsBranchClaim o r) (λ (a : Address). claim_by a.section a.value r) answer xs (branch_tells h) e
 
 abbrev Names : ObjectParts → Claim → Type 0
-Names o c = IsNamed o c.section c.offset c.from_section c.from_offset
+Names o c = IsNamed o c.section c.offset c.from_section c.from_offset × (c.entry ≡ true)
 
--- a claim by its fields
-pub same_claim : (c : Claim) (j x s p : ℕ) → c.section ≡ j → c.offset ≡ x → c.from_section ≡ s → c.from_offset ≡ p → c ≡ record { section = j; offset = x; from_section = s; from_offset = p }
-same_claim c j x s p a b d e =
-    ap (λ (z : ℕ). record { section = z; offset = c.offset; from_section = c.from_section; from_offset = c.from_offset }) a
-    ∙ ap (λ (z : ℕ). record { section = j; offset = z; from_section = c.from_section; from_offset = c.from_offset }) b
-    ∙ ap (λ (z : ℕ). record { section = j; offset = x; from_section = z; from_offset = c.from_offset }) d
-    ∙ ap (λ (z : ℕ). record { section = j; offset = x; from_section = s; from_offset = z }) e
+-- an entry by its fields
+same_claim : (c : Claim) (j x s p : ℕ) → c.section ≡ j → c.offset ≡ x → c.from_section ≡ s → c.from_offset ≡ p → c.entry ≡ true → c ≡ record { section = j; offset = x; from_section = s; from_offset = p; entry = true }
+same_claim c j x s p a b d e f =
+    ap (λ (z : ℕ). record { section = z; offset = c.offset; from_section = c.from_section; from_offset = c.from_offset; entry = c.entry }) a
+    ∙ ap (λ (z : ℕ). record { section = j; offset = z; from_section = c.from_section; from_offset = c.from_offset; entry = c.entry }) b
+    ∙ ap (λ (z : ℕ). record { section = j; offset = x; from_section = z; from_offset = c.from_offset; entry = c.entry }) d
+    ∙ ap (λ (z : ℕ). record { section = j; offset = x; from_section = s; from_offset = z; entry = c.entry }) e
+    ∙ ap (λ (z : Bool). record { section = j; offset = x; from_section = s; from_offset = p; entry = z }) f
 
 module _ (o : ObjectParts) where
   -- each claim is of what the object names
-  address_named : (c : Claim) → IsFrom (IsAddressClaim o) o.relocs c → Names o c
-  address_named c f =
-      let q = f.gives in
-      subst (Names o) (sym q.same) (by_address f.source q.is.symbol q.is.reference (ap even q.is.value) refl refl)
-
-  branch_named : (c : Claim) → IsFrom (IsBranchClaim o) o.relocs c → Names o c
-  branch_named c f =
-      let q = f.gives in
-      subst (Names o) (sym q.same) (by_branch q.is.index f.source q.is.symbol q.is.right q.is.jump q.is.names q.is.home q.is.apart q.is.value refl refl)
+  reloc_named : (c : Claim) → IsFrom (IsRelocClaim o) o.relocs c → Names o c
+  reloc_named c f = elim f.gives [
+    | inl q ↦ subst (Names o) (sym q.same) (by_address f.source q.is.symbol q.is.reference (ap even q.is.value) refl refl, refl)
+    | inr q ↦ subst (Names o) (sym q.same) (by_branch q.is.index f.source q.is.symbol q.is.right q.is.jump q.is.names q.is.home q.is.apart q.is.value refl refl, refl)
+  ]
 
   entry_named : (c : Claim) → IsFrom (IsEntryClaim o) o.symbols c → Names o c
   entry_named c f = go (is_entry f.source) refl f.gives
@@ -80,7 +77,7 @@ module _ (o : ObjectParts) where
       in_section : (j : ℕ) (b : Bool) → f.source.home ≡ home.Section j → holds_code (slice_get o.sections j) ≡ b → is_entry f.source ≡ true → claim_in f.source (cond b (Some j) None) ≡ Some c → Names o c
       in_section j true at code e h =
           subst (Names o) (same_Some (own_claim j (even f.source.value)) c h)
-          (by_symbol at_index.0 f.source at_index.1 at (ap (is_in_code o) at ∙ code) e refl refl refl)
+          (by_symbol at_index.0 f.source at_index.1 at (ap (is_in_code o) at ∙ code) e refl refl refl, refl)
       in_section j false at code e h = absurd (none-some c h)
 
       by_home : (h : Home) → f.source.home ≡ h → is_entry f.source ≡ true → claim_in f.source (code_home o h) ≡ Some c → Names o c
@@ -93,9 +90,9 @@ module _ (o : ObjectParts) where
       go false e h = absurd (none-some c h)
 
   -- what the object names is claimed
-  named_cases : (c : Claim) → Names o c → IsFrom (IsEntryClaim o) o.symbols c ⊎ (IsFrom (IsAddressClaim o) o.relocs c ⊎ IsFrom (IsBranchClaim o) o.relocs c)
-  named_cases c (by_symbol k s at home code entry x j p) =
-      let made : c ≡ own_claim c.section (even s.value) = same_claim c c.section (even s.value) c.section (even s.value) refl x j (p ∙ x) in
+  named_cases : (c : Claim) → IsNamed o c.section c.offset c.from_section c.from_offset → c.entry ≡ true → IsFrom (IsEntryClaim o) o.symbols c ⊎ IsFrom (IsRelocClaim o) o.relocs c
+  named_cases c (by_symbol k s at home code entry x j p) marked =
+      let made : c ≡ own_claim c.section (even s.value) = same_claim c c.section (even s.value) c.section (even s.value) refl x j (p ∙ x) marked in
       let held : holds_code (slice_get o.sections c.section) ≡ true = ap (is_in_code o) (sym home) ∙ code in
       let gives : entry_claim o s ≡ Some c =
       cond-true (is_entry s) (claim_in s (code_home o s.home)) None entry
@@ -103,37 +100,31 @@ module _ (o : ObjectParts) where
       ∙ ap (λ (z : Option ℕ). claim_in s z) (cond-true (holds_code (slice_get o.sections c.section)) (Some c.section) None held)
       ∙ ap (λ (z : Claim). Some z) (sym made) in
       inl (record { source = s; there = contains_at o.symbols k s at; gives = gives })
-  named_cases c (by_address r s ref x j p) =
+  named_cases c (by_address r s ref x j p) marked =
       let a : Address = record { section = c.section; value = value_of o r s } in
-      let made = same_claim c c.section (even (value_of o r s)) r.section r.offset refl x j p in
-      inr (inl (record { source = r; there = contains_at o.relocs ref.index r ref.right.is_there; gives = record { address = a; is = record { symbol = s; reference = ref; value = refl }; same = made } }))
-  named_cases c (by_branch k r s right jump names home apart x j p) =
+      let made = same_claim c c.section (even (value_of o r s)) r.section r.offset refl x j p marked in
+      inr (record { source = r; there = contains_at o.relocs ref.index r ref.right.is_there; gives = inl (record { address = a; is = record { symbol = s; reference = ref; value = refl }; same = made }) })
+  named_cases c (by_branch k r s right jump names home apart x j p) marked =
       let a : Address = record { section = c.section; value = target_of o r s } in
-      let made = same_claim c c.section (target_of o r s) r.section r.offset refl x j p in
-      inr (inr (record {
+      let made = same_claim c c.section (target_of o r s) r.section r.offset refl x j p marked in
+      inr (record {
         source = r;
         there = contains_at o.relocs k r right.is_there;
-        gives = record { target = a; is = record { index = k; symbol = s; right = right; jump = jump; names = names; home = home; apart = apart; value = refl }; same = made };
-      }))
+        gives = inr (record { target = a; is = record { index = k; symbol = s; right = right; jump = jump; names = names; home = home; apart = apart; value = refl }; same = made });
+      })
 
-  -- three lists of claims, one behind the other
-  pub are_named : (none a b c : List Claim) → none ≡ [] → Gains (IsFrom (IsEntryClaim o) o.symbols) none a → Gains (IsFrom (IsAddressClaim o) o.relocs) a b → Gains (IsFrom (IsBranchClaim o) o.relocs) b c → AreNamed o c
-  are_named none a b c empty entries addresses branches = λ y. (
-    λ h. elim ((branches y).0 h) [
-      | inl i ↦ elim ((addresses y).0 i) [
-        | inl j ↦ elim ((entries y).0 j) [
-          | inl k ↦ absurd (contains_none y (subst (λ (l : List Claim). Contains l y) empty k))
-          | inr f ↦ entry_named y f
-        ]
-        | inr f ↦ address_named y f
+  -- two lists of claims, one behind the other
+  pub are_named : (none a b : List Claim) → none ≡ [] → Gains (IsFrom (IsEntryClaim o) o.symbols) none a → Gains (IsFrom (IsRelocClaim o) o.relocs) a b → AreNamed o b
+  are_named none a b empty entries relocs = λ y. (
+    λ h. elim ((relocs y).0 h) [
+      | inl i ↦ elim ((entries y).0 i) [
+        | inl k ↦ absurd (contains_none y (subst (λ (l : List Claim). Contains l y) empty k))
+        | inr f ↦ entry_named y f
       ]
-      | inr f ↦ branch_named y f
+      | inr f ↦ reloc_named y f
     ],
-    λ h. elim (named_cases y h) [
-      | inl f ↦ (branches y).1 (inl ((addresses y).1 (inl ((entries y).1 (inr f)))))
-      | inr w ↦ elim w [
-        | inl f ↦ (branches y).1 (inl ((addresses y).1 (inr f)))
-        | inr f ↦ (branches y).1 (inr f)
-      ]
+    λ h. elim (named_cases y h.0 h.1) [
+      | inl f ↦ (relocs y).1 (inl ((entries y).1 (inr f)))
+      | inr f ↦ (relocs y).1 (inr f)
     ],
   )

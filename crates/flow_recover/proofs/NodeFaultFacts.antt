@@ -1,5 +1,5 @@
 -- What stands in the way of a flow at a node, and at a claim.
-use Rattle.std.proofs.Common.{◌≡◌, ◌↔◌, ◌⊎◌, ℕ, Bool, true, not, List, refl, sym, ap, ◌∙◌, subst, inl, inr, Some, None, Ok, Err}
+use Rattle.std.proofs.Common.{◌≡◌, ◌↔◌, ◌⊎◌, ℕ, Bool, true, not, List, refl, sym, ap, ◌∙◌, subst, inl, inr, Some}
 use Rattle.std.specs.Prelude.{Contains}
 use Rattle.std.proofs.lemmas.Bool.{true≢false}
 use Rattle.std.proofs.lemmas.Option.{none-some, same_Some}
@@ -9,23 +9,21 @@ use Rattle.elf_model.specs.declared.refusals.Spot.{Spot}
 use Rattle.elf_model.specs.Objects.{ObjectParts}
 use Rattle.thumb_instr.specs.declared.instructions.Instr.{Instr}
 use Rattle.thumb_instr.specs.declared.instructions.Instr.TheVariants as instr
-use Rattle.thumb_instr.specs.declared.refusals.BadInstr.{BadInstr}
 use Rattle.thumb_instr.specs.Fields.{LiteralFields}
-use Rattle.thumb_instr.specs.Rows.{Answer}
 use Rattle.flow_recover.specs.declared.aims.Aim.{Aim}
 use Rattle.flow_recover.specs.declared.aims.Aim.TheVariants.{Near, Shared, Fixed, Far}
 use Rattle.flow_recover.specs.declared.named.Claim.{Claim}
 use Rattle.flow_recover.specs.declared.nodes.Node.{Node}
 use Rattle.code_ranges.specs.Spots.{spot_of}
-use Rattle.reloc_places.specs.Starts.{HasStart, IsDataWord}
+use Rattle.reloc_places.specs.Starts.{HasStart, IsDataWord, behind}
+use Rattle.flow_recover.specs.Reach.{may_fall}
 use Rattle.flow_recover.specs.Aims.{has_offset, IsAim}
-use Rattle.flow_recover.specs.Reach.{IsFound}
-use Rattle.flow_recover.specs.FlowFaults.{literal_place, refusal_of, IsInBlock}
+use Rattle.flow_recover.specs.FlowFaults.{literal_place, IsInBlock}
 use Rattle.flow_recover.specs.Gains.{Gains}
-use Rattle.flow_recover.specs.NodeFaults.{IsCut, is_adr, is_fixed, literal_of, IsAbsolute, LacksWord, RunsOut, IsInstrSpot, IsGoodSpot, IsBadSpot, IsWrongClaim, IsClaimSpot}
+use Rattle.flow_recover.specs.NodeFaults.{IsCut, is_adr, is_fixed, literal_of, IsAbsolute, LacksWord, RunsOut, IsInstrSpot, IsWrongClaim, IsClaimSpot}
 use Rattle.flow_recover.specs.NodeFaults.IsInstrSpot.{adr as of_adr, absolute as of_absolute, no_word as of_word, no_code as of_code, cut_block as of_block}
-use Rattle.flow_recover.proofs.AnswerFacts.{not_true, never_true, none_of, this_of, one_of}
-use Rattle.flow_recover.proofs.GainFacts.{gain_none, gain_same, gain_both}
+use Rattle.flow_recover.proofs.AnswerFacts.{not_true, never_true}
+use Rattle.flow_recover.proofs.GainFacts.{gain_same, gain_both}
 
 module _ (o : ObjectParts) (n : Node) (i : Instr) where
   pub absolute_is : (a : Aim) (r : Bool) → has_offset i ≡ true → ((b : Aim) → (a ≡ b) ↔ IsAim o n.section n.offset i b) → r ≡ is_fixed a → (r ≡ true) ↔ IsAbsolute o n i
@@ -55,6 +53,12 @@ module _ (o : ObjectParts) (n : Node) (i : Instr) where
       literal : (i : Instr) → literal_of i ≡ Some l → i ≡ instr.Literal l
       literal (instr.Literal m) e = ap (λ (k : LiteralFields). instr.Literal k) (same_Some m l e)
       literal _ e = absurd (none-some l e)
+
+pub runs_is : (o : ObjectParts) (n : Node) (i : Instr) (x : ℕ) (r : Bool) → may_fall n i ≡ true → x ≡ behind o n.section n.offset → (r ≡ true) ↔ HasStart o n.section x → (not r ≡ true) ↔ RunsOut o n i
+runs_is o n i x r falls at start = (
+  λ t. record { falls = falls; no_code = λ h. true≢false (sym (start.1 (subst (λ (y : ℕ). HasStart o n.section y) (sym at) h)) ∙ not_true r t) },
+  λ p. never_true r (λ t. p.no_code (subst (λ (y : ℕ). HasStart o n.section y) at (start.0 t))),
+)
 
 pub wrong_is : (o : ObjectParts) (c : Claim) (start r : Bool) → (start ≡ true) ↔ HasStart o c.section c.offset → start ≡ true → (r ≡ true) ↔ IsInBlock o c.section c.offset → (r ≡ true) ↔ IsWrongClaim o c
 wrong_is o c start r has t block = (
@@ -101,33 +105,6 @@ module _ (o : ObjectParts) (n : Node) (i : Instr) (adr absolute word code cut : 
   instr_spots s0 s1 s2 s3 s4 s5 g1 g2 g3 g4 g5 s =
       gain_same (Contains s5 s) (Contains s0 s) (AnyPushed s) (IsInstrSpot o n i s) (pushed_spot s) (spot_pushed s)
       (gain_both _ _ _ _ _ (gain_both _ _ _ _ _ (gain_both _ _ _ _ _ (gain_both _ _ _ _ _ (g1 s) (g2 s)) (g3 s)) (g4 s)) (g5 s))
-
--- a node's spots
-module _ (o : ObjectParts) (n : Node) where
-  pub good_none : (spots : List Spot) → ((i : Instr) → (None ≡ Some i) ↔ IsFound o n (Ok i)) → Gains (IsGoodSpot o n) spots spots
-  good_none spots h s = gain_none (Contains spots s) (IsGoodSpot o n s) (λ p. none_of (λ i. IsFound o n (Ok i)) h p.instr p.found)
-
-  pub good_some : (i : Instr) (old new : List Spot) → ((k : Instr) → (Some i ≡ Some k) ↔ IsFound o n (Ok k)) → Gains (IsInstrSpot o n i) old new → Gains (IsGoodSpot o n) old new
-  good_some i old new h g s = gain_same (Contains new s) (Contains old s) (IsInstrSpot o n i s) (IsGoodSpot o n s)
-      (λ p. record { instr = i; found = this_of (λ k. IsFound o n (Ok k)) i h; at = p })
-      (λ p. subst (λ (k : Instr). IsInstrSpot o n k s) (sym (one_of (λ k. IsFound o n (Ok k)) i h p.instr p.found)) p.at)
-      (g s)
-
-  pub bad_none : (spots : List Spot) → ((a : Answer) → (None ≡ Some a) ↔ IsFound o n a) → Gains (IsBadSpot o n) spots spots
-  bad_none spots h s = gain_none (Contains spots s) (IsBadSpot o n s) (λ p. none_of (IsFound o n) h (Err p.bad) p.found)
-
-  pub bad_ok : (a : Answer) (i : Instr) (spots : List Spot) → a ≡ Ok i → ((b : Answer) → (Some a ≡ Some b) ↔ IsFound o n b) → Gains (IsBadSpot o n) spots spots
-  bad_ok a i spots e h s = gain_none (Contains spots s) (IsBadSpot o n s) (λ p. let same : a ≡ Err p.bad = one_of (IsFound o n) a h (Err p.bad) p.found in cc)
-
-  pub bad_some : (a : Answer) (b : BadInstr) (why : Refusal) (old new : List Spot) → a ≡ Err b → ((c : Answer) → (Some a ≡ Some c) ↔ IsFound o n c) → why ≡ refusal_of b
-      → Gains (Pushed true why n.section n.offset) old new → Gains (IsBadSpot o n) old new
-  bad_some a b why old new e h is g s = gain_same (Contains new s) (Contains old s) (Pushed true why n.section n.offset s) (IsBadSpot o n s)
-      (λ p. record { bad = b; found = subst (λ (c : Answer). IsFound o n c) e (this_of (IsFound o n) a h); at = p.1 ∙ ap (λ (r : Refusal). spot_of r n.section n.offset) is })
-      (λ p.
-      let same : a ≡ Err p.bad = one_of (IsFound o n) a h (Err p.bad) p.found in
-      let bad : p.bad ≡ b = cc in
-      (refl, p.at ∙ ap (λ (r : Refusal). spot_of r n.section n.offset) (ap refusal_of bad ∙ sym is)))
-      (g s)
 
 -- a claim's spot
 pub claim_spot : (o : ObjectParts) (c : Claim) (wrong : Bool) (old new : List Spot) → (wrong ≡ true) ↔ IsWrongClaim o c → Gains (Pushed wrong refusal.IntoMiddle c.from_section c.from_offset) old new → Gains (IsClaimSpot o c) old new

@@ -1,27 +1,26 @@
 -- The points of an object without faults.
-use Rattle.std.proofs.Common.{◌≡◌, ◌↔◌, ◌≤◌, ℕ, zero, suc, ◌+◌, Bool, true, false, cond, List, [], ◌∷◌, ◌++◌, length, refl, sym, ap, ◌∙◌, subst, inl, inr, ◌⊎◌, arith, map, Option, Some, None, Ok, Err}
-use Rattle.std.specs.Prelude.{slice_get, IsTrue, ◌==◌}
+use Rattle.std.proofs.Common.{◌≡◌, ◌↔◌, ◌≤◌, ℕ, zero, suc, ◌+◌, ◌-◌, Bool, true, false, cond, List, [], ◌∷◌, ◌++◌, length, refl, sym, ap, ◌∙◌, subst, inl, inr, ◌⊎◌, arith, map, Option, Some, None, Ok, Err}
+use Rattle.std.specs.Prelude.{slice_get, ◌==◌}
 use Rattle.std.specs.Option.{option_map}
 use Rattle.std.proofs.lemmas.Bool.{leb-true, true≢false}
 use Rattle.std.proofs.lemmas.List.{length-append}
 use Rattle.std.proofs.lemmas.Option.{none-some, same_Some, slice_get-map}
 use Rattle.elf_model.specs.declared.refusals.Refusal.TheVariants as refusal
 use Rattle.elf_model.specs.Fields.{half_at}
-use Rattle.elf_model.specs.Objects.{ObjectParts, is_object, is_within}
+use Rattle.elf_model.specs.Objects.{ObjectParts}
 use Rattle.elf_model.specs.Ranges.{is_long, is_whole, length_at}
 use Rattle.thumb_instr.specs.declared.instructions.Instr.{Instr}
 use Rattle.thumb_instr.specs.declared.instructions.Instr.TheVariants as instr
 use Rattle.thumb_instr.specs.declared.refusals.BadInstr.{BadInstr}
 use Rattle.thumb_instr.specs.declared.refusals.BadInstr.TheVariants.{Unknown}
 use Rattle.thumb_instr.specs.Fields.{LiteralFields}
-use Rattle.thumb_instr.specs.Rows.{Answer}
 use Rattle.flow_recover.specs.declared.nodes.Node.{Node}
 use Rattle.flow_recover.specs.declared.aims.Aim.{Aim}
 use Rattle.flow_recover.specs.declared.aims.Aim.TheVariants.{Near}
 use Rattle.flow_recover.specs.declared.flows.Exit.TheVariants as exit
 use Rattle.flow_recover.specs.declared.flows.Point.{Point}
 use Rattle.flow_recover.specs.declared.flows.PoolWord.{PoolWord}
-use Rattle.reloc_places.specs.Starts.{bytes_of, HasStart, decoded_at, instr_at, behind}
+use Rattle.reloc_places.specs.Starts.{bytes_of, HasStart, decoded_at, behind}
 use Rattle.flow_recover.specs.Aims.{is_branch, has_offset, IsAim}
 use Rattle.flow_recover.specs.Reach.{IsFound, GoesOn, node_behind, node_at, Aims, LeadsOn, IsReached}
 use Rattle.flow_recover.specs.Reach.IsDeadEnd.{no_code}
@@ -42,7 +41,7 @@ use Rattle.flow_recover.specs.Charts.{AreNodes}
 use Rattle.reloc_places.specs.Tables.{AreStarts}
 use Rattle.flow_recover.specs.Settled.{IsFaultless, IsLoad, ArePlaces, ArePointsOf, word_at}
 use Rattle.elf_model.proofs.Elements.{place_of}
-use Rattle.reloc_places.proofs.StartFacts.{start_or_none, any_limit, IsInside, start_inside, length_least}
+use Rattle.reloc_places.proofs.StartFacts.{start_or_none}
 
 -- an instruction starts at a reached node
 pub reached_starts : (o : ObjectParts) (n : Node) → IsReached o n → HasStart o n.section n.offset
@@ -65,17 +64,12 @@ found_whole o n i f = go (is_whole (bytes_of o n.section) f.end n.offset) refl
         let bad : Err Unknown ≡ Ok i = sym (ap (λ (b : Bool). cond b (decoded_at (bytes_of o n.section) n.offset n.it) (Err Unknown)) e) ∙ f.is in
         absurd (cc)
 
-pub has_half : (o : ObjectParts) (n : Node) (i : Instr) → is_object o ≡ true → IsTrue (is_within o any_limit) → IsFound o n (Ok i) → n.offset + 2 ≤ length (bytes_of o n.section)
-has_half o n i sound within f =
-    let whole = found_whole o n i f in
-    let least = length_least (bytes_of o n.section) n.offset in
-    let inside : IsInside o n.section n.offset f.end = start_inside o n.section n.offset f.end sound within f.start in
-    let in_bytes : f.end ≤ length (bytes_of o n.section) = inside.in_bytes in
-    omega arith
-
-pub is_point_wide : (o : ObjectParts) (n : Node) (bytes : List ℕ) (l : ℕ) → bytes ≡ bytes_of o n.section → l ≡ length_at bytes n.offset → (l == 4) ≡ is_long (half_at (bytes_of o n.section) n.offset)
-is_point_wide o n bytes l e f = ap (λ (k : ℕ). k == 4) (f ∙ ap (λ (b : List ℕ). length_at b n.offset) e) ∙ go (is_long (half_at (bytes_of o n.section) n.offset))
+pub is_point_wide : (o : ObjectParts) (n : Node) (next : ℕ) → next ≡ behind o n.section n.offset → (next - n.offset == 4) ≡ is_long (half_at (bytes_of o n.section) n.offset)
+is_point_wide o n next e = ap (λ (k : ℕ). k == 4) (length (length_at (bytes_of o n.section) n.offset) next e) ∙ go (is_long (half_at (bytes_of o n.section) n.offset))
   where
+    length : (l next : ℕ) → next ≡ n.offset + l → next - n.offset ≡ l
+    length l next e = omega arith
+
     go : (b : Bool) → (cond b 4 2 == 4) ≡ b
     go true = refl
     go false = refl
@@ -84,12 +78,6 @@ module _ (o : ObjectParts) (faultless : IsFaultless o) where
   -- halfwords that are reached are an instruction
   pub none_bad : (n : Node) (b : BadInstr) → IsReached o n → IsFound o n (Err b) → ⊥
   none_bad n b r f = faultless (refusal_of b) n.section n.offset (fault.no_instr n b r f refl refl refl)
-
-  pub none_missing : (n : Node) → IsReached o n → ((a : Answer) → (None ≡ Some a) ↔ IsFound o n a) → ⊥
-  none_missing n r found =
-      let s = reached_starts o n r in
-      let a : Answer = instr_at (bytes_of o n.section) s.end n.offset n.it in
-      none-some a ((found a).1 (record { end = s.end; start = s.start; is = refl }))
 
   -- a literal load names a word
   pub names_word : (n : Node) (l : LiteralFields) → IsReached o n → IsFound o n (Ok (instr.Literal l)) → literal_place n.offset l ≡ None → ⊥

@@ -1,19 +1,21 @@
 -- The spots of relocations that stand in the way of a flow.
-use Rattle.std.proofs.Common.{◌≡◌, ◌↔◌, ℕ, ◌%◌, List, [], ◌∷◌, ◌++◌, refl, sym, ap, ◌∙◌, subst, true, Option, Some, None}
-use Rattle.std.specs.Prelude.{slice_get}
+use Rattle.std.proofs.Common.{◌≡◌, ◌↔◌, ◌⊎◌, ℕ, ◌%◌, Bool, true, not, List, refl, sym, ap, ◌∙◌, subst, inl, inr, Option, Some, None}
+use Rattle.std.specs.Prelude.{Contains, slice_get}
+use Rattle.std.proofs.lemmas.Bool.{true≢false}
 use Rattle.std.proofs.lemmas.Option.{none-some, same_Some}
 use Rattle.elf_model.specs.declared.objects.Reloc.{Reloc}
 use Rattle.elf_model.specs.declared.refusals.Refusal.TheVariants.{RelocKind, IntoMiddle}
 use Rattle.elf_model.specs.declared.refusals.Spot.{Spot}
 use Rattle.elf_model.specs.Objects.{ObjectParts, is_object}
 use Rattle.flow_recover.specs.declared.references.Address.{Address}
-use Rattle.code_ranges.specs.Spots.{spot_of}
 use Rattle.reloc_places.specs.Relocations.{IsRight, value_of}
 use Rattle.flow_recover.specs.Gains.{Gains, IsFrom}
 use Rattle.flow_recover.specs.NamedClaims.{IsAddress}
-use Rattle.flow_recover.specs.RelocFaults.{MakesArmAddress, IsWrongSpot, IsArmSpot, IsWrongReloc, IsArmAddress}
+use Rattle.flow_recover.specs.RelocFaults.{MakesArmAddress, IsRelocSpot, IsRelocFault}
 use Rattle.elf_model.proofs.Elements.{contains_at, place_of}
-use Rattle.flow_recover.proofs.GainFacts.{gains_if, gains_none, gains_as}
+use Rattle.flow_recover.proofs.AnswerFacts.{not_true, never_true}
+use Rattle.flow_recover.proofs.GainFacts.{gain_same, gain_both, gains_as}
+use Rattle.flow_recover.proofs.NodeFaultFacts.{Pushed}
 use Rattle.flow_recover.proofs.RightRelocs.{reloc_there}
 
 -- the address that a relocation makes
@@ -34,41 +36,34 @@ module _ (o : ObjectParts) (r : Reloc) (answer : Option Address) (exact : (a : A
       let same : a ≡ b = same_Some a b (sym e ∙ (exact b).1 (record { symbol = m.symbol; reference = m.reference; value = refl })) in
       ap (λ (z : Address). z.value % 2) same ∙ m.arm
 
--- one relocation's spot
-pub wrong_some : (o : ObjectParts) (r : Reloc) (xs new : List Spot) (s : Spot) → (((k : ℕ) × IsRight o k r) → ⊥) → s ≡ spot_of RelocKind r.section r.offset → new ≡ xs ++ s ∷ [] → Gains (IsWrongSpot o r) xs new
-wrong_some o r xs new s wrong same made =
-    gains_if (IsWrongSpot o r) (((k : ℕ) × IsRight o k r) → ⊥) xs new (spot_of RelocKind r.section r.offset) (λ y. (λ h. h, λ h. h)) wrong (made ∙ ap (λ (z : Spot). xs ++ z ∷ []) same)
-
-pub wrong_none : (o : ObjectParts) (r : Reloc) (xs : List Spot) → (k : ℕ) × IsRight o k r → Gains (IsWrongSpot o r) xs xs
-wrong_none o r xs right = gains_none (IsWrongSpot o r) xs (λ y h. h.0 right)
-
-pub arm_some : (o : ObjectParts) (r : Reloc) (xs new : List Spot) (s : Spot) → MakesArmAddress o r → s ≡ spot_of IntoMiddle r.section r.offset → new ≡ xs ++ s ∷ [] → Gains (IsArmSpot o r) xs new
-arm_some o r xs new s makes same made =
-    gains_if (IsArmSpot o r) (MakesArmAddress o r) xs new (spot_of IntoMiddle r.section r.offset) (λ y. (λ h. h, λ h. h)) makes (made ∙ ap (λ (z : Spot). xs ++ z ∷ []) same)
-
-pub arm_none : (o : ObjectParts) (r : Reloc) (xs : List Spot) → (MakesArmAddress o r → ⊥) → Gains (IsArmSpot o r) xs xs
-arm_none o r xs never = gains_none (IsArmSpot o r) xs (λ y h. never h.0)
+-- one relocation's spots
+pub reloc_spots : (o : ObjectParts) (r : Reloc) (right arm : Bool) → (right ≡ true) ↔ ((k : ℕ) × IsRight o k r) → (arm ≡ true) ↔ MakesArmAddress o r → (s0 s1 s2 : List Spot)
+    → Gains (Pushed (not right) RelocKind r.section r.offset) s0 s1 → Gains (Pushed arm IntoMiddle r.section r.offset) s1 s2 → Gains (IsRelocSpot o r) s0 s2
+reloc_spots o r right arm is makes s0 s1 s2 g h s =
+    gain_same (Contains s2 s) (Contains s0 s) (Pushed (not right) RelocKind r.section r.offset s ⊎ Pushed arm IntoMiddle r.section r.offset s) (IsRelocSpot o r s)
+    (λ p. elim p [ inl a ↦ inl (λ k. true≢false (sym (is.1 k) ∙ not_true right a.0), a.1) | inr b ↦ inr (makes.0 b.0, b.1) ])
+    (λ p. elim p [ inl a ↦ inl (never_true right (λ t. a.0 (is.0 t)), a.1) | inr b ↦ inr (makes.1 b.0, b.1) ])
+    (gain_both _ _ _ _ _ (g s) (h s))
 
 -- those of all
 one_index : (o : ObjectParts) (i k : ℕ) (r : Reloc) → is_object o ≡ true → slice_get o.relocs i ≡ Some r → slice_get o.relocs k ≡ Some r → i ≡ k
 one_index o i k r sound a b = same_Some i k (sym (reloc_there o i r sound a) ∙ reloc_there o k r sound b)
 
-pub all_wrong : (o : ObjectParts) (xs new : List Spot) → is_object o ≡ true → Gains (IsFrom (IsWrongSpot o) o.relocs) xs new → Gains (IsWrongReloc o) xs new
-all_wrong o xs new sound gains =
-    gains_as (IsFrom (IsWrongSpot o) o.relocs) (IsWrongReloc o) xs new (λ y. (
-      λ f.
-          let at = place_of o.relocs f.source f.there in
-          record { index = at.0; reloc = f.source; there = at.1; wrong = λ right. f.gives.0 (at.0, right); same = f.gives.1 },
-      λ w. record {
-        source = w.reloc;
-        there = contains_at o.relocs w.index w.reloc w.there;
-        gives = (λ (k, right). w.wrong (subst (λ (n : ℕ). IsRight o n w.reloc) (one_index o k w.index w.reloc sound right.is_there w.there) right), w.same);
-      },
-    )) gains
+pub all_relocs : (o : ObjectParts) (xs new : List Spot) → is_object o ≡ true → Gains (IsFrom (IsRelocSpot o) o.relocs) xs new → Gains (IsRelocFault o) xs new
+all_relocs o xs new sound gains = gains_as (IsFrom (IsRelocSpot o) o.relocs) (IsRelocFault o) xs new (λ y. (to y, from y)) gains
+  where
+    to : (y : Spot) → IsFrom (IsRelocSpot o) o.relocs y → IsRelocFault o y
+    to y f =
+        let at = place_of o.relocs f.source f.there in
+        elim f.gives [
+          | inl w ↦ inl (record { index = at.0; reloc = f.source; there = at.1; wrong = λ right. w.0 (at.0, right); same = w.1 })
+          | inr a ↦ inr (record { reloc = f.source; makes = a.0; same = a.1 })
+        ]
 
-pub all_arm : (o : ObjectParts) (xs new : List Spot) → Gains (IsFrom (IsArmSpot o) o.relocs) xs new → Gains (IsArmAddress o) xs new
-all_arm o xs new gains =
-    gains_as (IsFrom (IsArmSpot o) o.relocs) (IsArmAddress o) xs new (λ y. (
-      λ f. record { reloc = f.source; makes = f.gives.0; same = f.gives.1 },
-      λ w. record { source = w.reloc; there = contains_at o.relocs w.makes.reference.index w.reloc w.makes.reference.right.is_there; gives = (w.makes, w.same) },
-    )) gains
+    from : (y : Spot) → IsRelocFault o y → IsFrom (IsRelocSpot o) o.relocs y
+    from y (inl w) = record {
+      source = w.reloc;
+      there = contains_at o.relocs w.index w.reloc w.there;
+      gives = inl (λ (k, right). w.wrong (subst (λ (n : ℕ). IsRight o n w.reloc) (one_index o k w.index w.reloc sound right.is_there w.there) right), w.same);
+    }
+    from y (inr a) = record { source = a.reloc; there = contains_at o.relocs a.makes.reference.index a.reloc a.makes.reference.right.is_there; gives = inr (a.makes, a.same) }

@@ -76,8 +76,8 @@ module _ (o : ObjectParts) where
   seeds_end claims nodes are h n = (
     λ c. h.sound n c,
     λ s.
-        let claim : Claim = record { section = n.section; offset = n.offset; from_section = s.section; from_offset = s.offset } in
-        subst (λ (it : ℕ). Contains nodes (record { section = n.section; offset = n.offset; it = it })) (sym s.clear) (h.whole claim ((are claim).1 s.named) s.start),
+        let claim : Claim = record { section = n.section; offset = n.offset; from_section = s.section; from_offset = s.offset; entry = true } in
+        subst (λ (it : ℕ). Contains nodes (record { section = n.section; offset = n.offset; it = it })) (sym s.clear) (h.whole claim ((are claim).1 (s.named, refl)) s.start),
   )
 
   module _ (end_at : ℕ → ℕ → Option ℕ) (starts : AreStarts o end_at) (claims : List Claim) (are : AreNamed o claims) (i : ℕ) (d : Claim) (l : i < length claims) where
@@ -94,7 +94,7 @@ module _ (o : ObjectParts) where
         go : (c : Claim) → Contains claims c → is_some (end_at c.section c.offset) ≡ true → new ≡ nodes ++ node_at c.section c.offset ∷ [] → AreSeedsOf (take i claims ++ c ∷ []) new
         go c m s e =
             let here : IsSeed o (node_at c.section c.offset) =
-            record { section = c.from_section; offset = c.from_offset; named = (are c).0 m; start = (start_found o end_at starts c.section c.offset).0 s; clear = refl } in
+            record { section = c.from_section; offset = c.from_offset; named = ((are c).0 m).0; start = (start_found o end_at starts c.section c.offset).0 s; clear = refl } in
             subst (λ (t : List Node). AreSeedsOf (take i claims ++ c ∷ []) t) (sym e) (record {
               sound = λ n g. elim (Contains-append_cases nodes (node_at c.section c.offset ∷ []) n g) [
                 | inl x ↦ h.sound n x
@@ -173,7 +173,7 @@ module _ (o : ObjectParts) where
     in_todo : (m : Node) → Contains rest m → Contains todo m
     in_todo m h = subst (λ (l : List Node). Contains l m) (sym taken) (Contains-append_left rest (n ∷ []) m h)
 
-    taken_reached : IsReached o n
+    pub taken_reached : IsReached o n
     taken_reached = w.todo_reached n (subst (λ (l : List Node). Contains l n) (sym taken) (Contains-append_right rest (n ∷ []) n (contains_here n [])))
 
     -- a turn at a node that was visited before

@@ -1,5 +1,5 @@
 -- The tables that a flow is found by, and what each step of finding it gives.
-use Rattle.std.specs.Prelude.{◌≡◌, ◌↔◌, ℕ, List, Contains}
+use Rattle.std.specs.Prelude.{◌≡◌, ◌↔◌, ℕ, true, List, Contains}
 use Rattle.std.specs.declared.cmp.Ordering.{Ordering}
 use Rattle.std.specs.Ordering.{nat_cmp, ordering_then}
 use Rattle.std.specs.BTreeMap.{get}
@@ -16,7 +16,7 @@ use Rattle.code_ranges.specs.Spots.{spot_of}
 use Rattle.reloc_places.specs.Tables.{AreStarts, AreWords, AreFunctions, AreRelocs}
 use Rattle.flow_recover.specs.Aims.{IsNamed}
 use Rattle.flow_recover.specs.Reach.{IsReached}
-use Rattle.flow_recover.specs.FlowFaults.{IsClaim, FlowFault}
+use Rattle.flow_recover.specs.FlowFaults.{FlowFault}
 
 pub record IsChart (o : ObjectParts) (c : Chart) : Type 0 where
   pub starts : AreStarts o (λ j x. get place_cmp c.starts (j, x))
@@ -28,12 +28,9 @@ pub record IsChart (o : ObjectParts) (c : Chart) : Type 0 where
 abbrev pub node_cmp : Node → Node → Ordering
 node_cmp a b = ordering_then (nat_cmp a.section b.section) (ordering_then (nat_cmp a.offset b.offset) (nat_cmp a.it b.it))
 
--- what the object names as places of control; all places that control is sent to
+-- what the object names as places of control, and control enters there
 abbrev pub AreNamed : ObjectParts → List Claim → Type 0
-AreNamed o claims = (c : Claim) → Contains claims c ↔ IsNamed o c.section c.offset c.from_section c.from_offset
-
-abbrev pub AreClaims : ObjectParts → List Claim → Type 0
-AreClaims o claims = (c : Claim) → Contains claims c ↔ IsClaim o c.section c.offset c.from_section c.from_offset
+AreNamed o claims = (c : Claim) → Contains claims c ↔ (IsNamed o c.section c.offset c.from_section c.from_offset × (c.entry ≡ true))
 
 -- the reached nodes in order
 pub record AreNodes (o : ObjectParts) (nodes : List Node) : Type 0 where

@@ -1,6 +1,7 @@
 pub mod Flows
 pub mod Aims
 pub mod Reach
+pub mod Visits
 pub mod FlowFaults
 pub mod WholeFlows
 pub mod Charts
@@ -12,4 +13,4 @@ pub mod Gains
 pub mod NamedClaims
 pub mod RelocFaults
 pub mod NodeFaults
-pub mod Entries
+pub mod Claims

@@ -1,5 +1,5 @@
 -- What one relocation or one symbol names as a place of control.
-use Rattle.std.specs.Prelude.{◌≡◌, ℕ, ◌==◌, true, false, Option, Some, None, if◌then◌else◌, slice_get}
+use Rattle.std.specs.Prelude.{◌≡◌, ◌⊎◌, ℕ, ◌==◌, true, false, Option, Some, None, if◌then◌else◌, slice_get}
 use Rattle.elf_model.specs.declared.objects.Symbol.{Symbol}
 use Rattle.elf_model.specs.declared.objects.Reloc.{Reloc}
 use Rattle.elf_model.specs.declared.objects.Home.{Home}
@@ -57,10 +57,10 @@ pub record IsFarTarget (o : ObjectParts) (r : Reloc) (a : Address) : Type 0 wher
 
 -- the claims that they make
 abbrev pub claim_by : ℕ → ℕ → Reloc → Claim
-claim_by j x r = record { section = j; offset = x; from_section = r.section; from_offset = r.offset }
+claim_by j x r = record { section = j; offset = x; from_section = r.section; from_offset = r.offset; entry = true }
 
 abbrev pub own_claim : ℕ → ℕ → Claim
-own_claim j x = record { section = j; offset = x; from_section = j; from_offset = x }
+own_claim j x = record { section = j; offset = x; from_section = j; from_offset = x; entry = true }
 
 pub record IsAddressClaim (o : ObjectParts) (r : Reloc) (c : Claim) : Type 0 where
   pub address : Address
@@ -71,6 +71,9 @@ pub record IsBranchClaim (o : ObjectParts) (r : Reloc) (c : Claim) : Type 0 wher
   pub target : Address
   pub is : IsFarTarget o r target
   pub same : c ≡ claim_by target.section target.value r
+
+abbrev pub IsRelocClaim : ObjectParts → Reloc → Claim → Type 0
+IsRelocClaim o r c = IsAddressClaim o r c ⊎ IsBranchClaim o r c
 
 abbrev pub claim_in : Symbol → Option ℕ → Option Claim
 claim_in s None = None

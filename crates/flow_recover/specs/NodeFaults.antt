@@ -14,10 +14,11 @@ use Rattle.flow_recover.specs.declared.aims.Aim.TheVariants.{Near, Shared, Fixed
 use Rattle.flow_recover.specs.declared.blocks.Block.{Block}
 use Rattle.flow_recover.specs.declared.named.Claim.{Claim}
 use Rattle.flow_recover.specs.declared.nodes.Node.{Node}
+use Rattle.flow_recover.specs.declared.visits.Visit.{Visit}
 use Rattle.code_ranges.specs.Spots.{spot_of}
 use Rattle.reloc_places.specs.Starts.{bytes_of, HasStart, IsDataWord, behind, following}
 use Rattle.flow_recover.specs.Aims.{has_offset, IsAim}
-use Rattle.flow_recover.specs.Reach.{IsFound, may_fall, Aims}
+use Rattle.flow_recover.specs.Reach.{IsFound, may_fall, IsReached}
 use Rattle.flow_recover.specs.FlowFaults.{block_length, literal_place, refusal_of, IsInBlock}
 
 -- the mask of an IT
@@ -45,11 +46,11 @@ pub record IsMember (bytes : List ℕ) (b : Block) (x : ℕ) : Type 0 where
   pub in_range : x < b.end
 
 -- an instruction of the block of an IT that stands at a node
-pub record IsBlockPlace (o : ObjectParts) (n : Node) (j x : ℕ) : Type 0 where
+pub record IsBlockPlace (o : ObjectParts) (n : Node) (p : ℕ × ℕ) : Type 0 where
   pub block : Block
   pub is_block : IsBlock o n block
-  pub section : n.section ≡ j
-  pub member : IsMember (bytes_of o j) block x
+  pub section : n.section ≡ p.0
+  pub member : IsMember (bytes_of o p.0) block p.1
 
 -- the block goes past the end of its range
 pub record IsCut (o : ObjectParts) (n : Node) : Type 0 where
@@ -63,15 +64,6 @@ is_fixed (Near x) = false
 is_fixed (Shared x) = false
 is_fixed Fixed = true
 is_fixed Far = false
-
--- where the branch or call at a node leads, and from where
-pub record IsNodeClaim (o : ObjectParts) (n : Node) (c : Claim) : Type 0 where
-  pub instr : Instr
-  pub found : IsFound o n (Ok instr)
-  pub aims : Aims o n instr c.offset
-  pub section : c.section ≡ n.section
-  pub from_section : c.from_section ≡ n.section
-  pub from_offset : c.from_offset ≡ n.offset
 
 -- what a node's instruction may be at fault for: it makes an address of pc; leads to an absolute address; loads what
 -- is no word of data; or control goes on from it to where no code is
@@ -104,18 +96,18 @@ pub data IsInstrSpot (o : ObjectParts) (n : Node) (i : Instr) (s : Spot) : Type 
   no_code : RunsOut o n i → s ≡ spot_of refusal.FallsOff n.section n.offset → IsInstrSpot o n i s
   cut_block : IsCut o n → s ≡ spot_of refusal.FallsOff n.section n.offset → IsInstrSpot o n i s
 
-pub record IsGoodSpot (o : ObjectParts) (n : Node) (s : Spot) : Type 0 where
-  pub instr : Instr
-  pub found : IsFound o n (Ok instr)
-  pub at : IsInstrSpot o n instr s
+abbrev pub IsVisitSpot : ObjectParts → Visit → Spot → Type 0
+IsVisitSpot o v s = IsInstrSpot o v.node v.instr s
 
 pub record IsBadSpot (o : ObjectParts) (n : Node) (s : Spot) : Type 0 where
   pub bad : BadInstr
   pub found : IsFound o n (Err bad)
   pub at : s ≡ spot_of (refusal_of bad) n.section n.offset
 
-abbrev pub IsNodeSpot : ObjectParts → Node → Spot → Type 0
-IsNodeSpot o n s = IsBadSpot o n s ⊎ IsGoodSpot o n s
+pub record IsReachedBad (o : ObjectParts) (s : Spot) : Type 0 where
+  pub node : Node
+  pub reached : IsReached o node
+  pub bad : IsBadSpot o node s
 
 abbrev pub IsWrongClaim : ObjectParts → Claim → Type 0
 IsWrongClaim o c = (¬ HasStart o c.section c.offset) ⊎ IsInBlock o c.section c.offset

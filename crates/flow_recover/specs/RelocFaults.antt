@@ -1,5 +1,5 @@
 -- The spots of relocations that stand in the way of a flow.
-use Rattle.std.specs.Prelude.{◌≡◌, ℕ, ◌%◌, Some, slice_get}
+use Rattle.std.specs.Prelude.{◌≡◌, ◌⊎◌, ℕ, ◌%◌, Some, slice_get}
 use Rattle.elf_model.specs.declared.objects.Symbol.{Symbol}
 use Rattle.elf_model.specs.declared.objects.Reloc.{Reloc}
 use Rattle.elf_model.specs.declared.refusals.Refusal.TheVariants.{RelocKind, IntoMiddle}
@@ -23,6 +23,9 @@ IsWrongSpot o r s = (((k : ℕ) × IsRight o k r) → ⊥) × (s ≡ spot_of Rel
 abbrev pub IsArmSpot : ObjectParts → Reloc → Spot → Type 0
 IsArmSpot o r s = MakesArmAddress o r × (s ≡ spot_of IntoMiddle r.section r.offset)
 
+abbrev pub IsRelocSpot : ObjectParts → Reloc → Spot → Type 0
+IsRelocSpot o r s = IsWrongSpot o r s ⊎ IsArmSpot o r s
+
 -- those of all relocations
 pub record IsWrongReloc (o : ObjectParts) (s : Spot) : Type 0 where
   pub index : ℕ
@@ -35,3 +38,6 @@ pub record IsArmAddress (o : ObjectParts) (s : Spot) : Type 0 where
   pub reloc : Reloc
   pub makes : MakesArmAddress o reloc
   pub same : s ≡ spot_of IntoMiddle reloc.section reloc.offset
+
+abbrev pub IsRelocFault : ObjectParts → Spot → Type 0
+IsRelocFault o s = IsWrongReloc o s ⊎ IsArmAddress o s

@@ -7,7 +7,7 @@ use Rattle.flow_recover.specs.declared.aims.Aim.{Aim}
 use Rattle.flow_recover.specs.declared.aims.Aim.TheVariants.{Near, Shared, Fixed, Far}
 use Rattle.reloc_places.specs.Starts.{HasStart}
 use Rattle.flow_recover.specs.Aims.{IsAim, IsNamed}
-use Rattle.flow_recover.specs.Reach.{node_behind, node_at, LeadsOn, LeadsAway, IsReached}
+use Rattle.flow_recover.specs.Reach.{node_at, LeadsOn, LeadsAway, IsReached}
 
 -- a named place at which an instruction starts, with a clear IT state
 pub record IsSeed (o : ObjectParts) (n : Node) : Type 0 where
@@ -19,11 +19,6 @@ pub record IsSeed (o : ObjectParts) (n : Node) : Type 0 where
 
 abbrev pub AreSeeds : ObjectParts → List Node → Type 0
 AreSeeds o nodes = (n : Node) → Contains nodes n ↔ IsSeed o n
-
--- the node behind an instruction, where one starts
-pub record IsStartBehind (o : ObjectParts) (n : Node) (i : Instr) (m : Node) : Type 0 where
-  pub is : m ≡ node_behind o n i
-  pub start : HasStart o m.section m.offset
 
 -- the offset of its own section to which an aim leads
 abbrev pub offset_in : Aim → Option ℕ

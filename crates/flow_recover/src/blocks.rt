@@ -1,20 +1,19 @@
 //! IT blocks.
 
-ghost use Rattle.std.specs.Prelude.{◌≡◌, ◌↔◌, ◌+◌, ◌≤◌, ◌^◌, ℕ, true, Some, IfOk, IfSome, OnOk, IsTrue};
+ghost use Rattle.std.specs.Prelude.{◌≡◌, ◌↔◌, ◌+◌, ◌≤◌, ◌^◌, ℕ, true, Some, IfOk, IfSome, OnOk};
 ghost use Rattle.std.specs.List.{list_all};
-ghost use Rattle.elf_model.specs.Objects.{is_within};
 ghost use Rattle.elf_model.specs.Ranges.{is_whole};
 ghost use Rattle.flow_recover.specs.declared.blocks.Block.{Block};
 ghost use Rattle.reloc_places.specs.Starts.{following};
 ghost use Rattle.flow_recover.specs.FlowFaults.{block_length as block_length_of, IsInBlock};
-ghost use Rattle.flow_recover.specs.Charts.{IsChart, AreNodes};
+ghost use Rattle.flow_recover.specs.Charts.{IsChart};
+ghost use Rattle.flow_recover.specs.Visits.{IsVisit, AreVisits};
 ghost use Rattle.flow_recover.specs.Gains.{has_place, PlacesGain};
 ghost use Rattle.flow_recover.specs.NodeFaults.{mask_of, IsBlock, IsBelow, IsMember, IsBlockPlace, IsCut};
 
 use crate::charts::{Chart, end_at};
-use crate::instructions::{behind, instr_of};
-use crate::nodes::Node;
-use elf_model::{Limit, Object};
+use crate::visits::Visit;
+use elf_model::Object;
 use reloc_places::{bytes_of, length_from};
 use std::alloc::{AllocError, Global};
 use std::collections::BTreeSet;
@@ -54,26 +53,23 @@ fn mask_of(i: &Instr) -> Option<u8>
     }
 }
 
-/// The block of the IT at a node, if one is there.
-fn block_at(o: &Object, chart: &Chart, n: Node) -> Option<Block>
-    requires within { IsTrue (is_within o.now Limit.ANY) }
+/// The block of an instruction, if it is an IT.
+fn block_of(o: &Object, chart: &Chart, v: &Visit) -> Option<Block>
     requires chart { IsChart o.now chart.now }
-    ensures exact { (b : Block) → (result ≡ Some b) ↔ IsBlock o.now n b }
+    requires visit { IsVisit o.now v.now }
+    ensures exact { (b : Block) → (result ≡ Some b) ↔ IsBlock o.now v.now.node b }
     ensures low { IfSome result (λ b. b.start ≤ 2 ^ 24 + 4) }
     ensures short { IfSome result (λ b. b.count ≤ 4) }
 {
-    match instr_of(o, chart, n) {
+    match mask_of(&v.instr) {
         None => None,
-        Some(i) => match mask_of(&i) {
+        Some(mask) => match end_at(chart, v.node.section, v.node.offset) {
             None => None,
-            Some(mask) => match end_at(chart, n.section, n.offset) {
-                None => None,
-                Some(end) => Some(Block {
-                    start: behind(o, n),
-                    end,
-                    count: block_length(mask),
-                }),
-            },
+            Some(end) => Some(Block {
+                start: v.behind,
+                end,
+                count: block_length(mask),
+            }),
         },
     }
 }
@@ -127,32 +123,32 @@ fn are_whole(bytes: &[u8], b: Block) -> bool
     whole
 }
 
-/// Whether the IT block at a node goes past the end of its range.
-pub(crate) fn is_cut(o: &Object, chart: &Chart, n: Node) -> bool
-    requires within { IsTrue (is_within o.now Limit.ANY) }
+/// Whether an instruction is an IT whose block goes past the end of its range.
+pub(crate) fn is_cut(o: &Object, chart: &Chart, v: &Visit) -> bool
     requires chart { IsChart o.now chart.now }
-    ensures { (result ≡ true) ↔ IsCut o.now n }
+    requires visit { IsVisit o.now v.now }
+    ensures { (result ≡ true) ↔ IsCut o.now v.now.node }
 {
-    match block_at(o, chart, n) {
+    match block_of(o, chart, v) {
         None => false,
-        Some(b) => !are_whole(bytes_of(o, n.section), b),
+        Some(b) => !are_whole(bytes_of(o, v.node.section), b),
     }
 }
 
-/// Adds the places of the instructions of a node's IT block.
+/// Adds the places of the instructions in the block of an IT.
 fn note_block(
     places: &mut BTreeSet<(u32, u32)>,
     o: &Object,
     chart: &Chart,
-    n: Node,
+    v: &Visit,
 ) -> Result<(), AllocError>
-    requires within { IsTrue (is_within o.now Limit.ANY) }
     requires chart { IsChart o.now chart.now }
-    ensures { OnOk result (PlacesGain (IsBlockPlace o.now n) places.old places.new) }
+    requires visit { IsVisit o.now v.now }
+    ensures { OnOk result (PlacesGain (λ j x. IsBlockPlace o.now v.now.node (j, x)) places.old places.new) }
 {
-    match block_at(o, chart, n) {
+    match block_of(o, chart, v) {
         None => Ok(()),
-        Some(b) => note_members(places, bytes_of(o, n.section), n.section, b),
+        Some(b) => note_members(places, bytes_of(o, v.node.section), v.node.section, b),
     }
 }
 
@@ -161,16 +157,15 @@ pub(crate) fn block_places(
     alloc: Global,
     o: &Object,
     chart: &Chart,
-    nodes: &[Node],
+    visits: &[Visit],
 ) -> Result<BTreeSet<(u32, u32)>, AllocError>
-    requires within { IsTrue (is_within o.now Limit.ANY) }
     requires chart { IsChart o.now chart.now }
-    requires nodes { AreNodes o.now nodes.now }
+    requires visits { AreVisits o.now visits.now }
     ensures { IfOk result (λ places. (j x : ℕ) → (has_place places j x ≡ true) ↔ IsInBlock o.now j x) }
 {
     let mut places = BTreeSet::new(alloc);
-    for n in nodes {
-        note_block(&mut places, o, chart, *n)?;
+    for v in visits {
+        note_block(&mut places, o, chart, v)?;
     }
     Ok(places)
 }

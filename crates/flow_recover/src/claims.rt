@@ -1,76 +1,100 @@
 //! All places that control is sent to.
 
-ghost use Rattle.std.specs.Prelude.{◌≡◌, ◌↔◌, Some, IfOk, OnOk, IsTrue};
-ghost use Rattle.elf_model.specs.Objects.{is_within};
-ghost use Rattle.flow_recover.specs.declared.named.Claim.{Claim};
-ghost use Rattle.flow_recover.specs.Charts.{IsChart, AreNamed, AreNodes, AreClaims};
-ghost use Rattle.flow_recover.specs.Gains.{Gains};
-ghost use Rattle.flow_recover.specs.NodeFaults.{IsNodeClaim};
+ghost use Rattle.std.specs.Prelude.{◌≡◌, ◌↔◌, ℕ, true, IfOk, OnOk};
+ghost use Rattle.std.specs.List.{filter_map};
+ghost use Rattle.std.specs.BTreeSet.{contains};
+ghost use Rattle.code_ranges.specs.Spans.{place_cmp};
+ghost use Rattle.flow_recover.specs.WholeFlows.{IsEntry};
+ghost use Rattle.flow_recover.specs.Charts.{AreNamed};
+ghost use Rattle.flow_recover.specs.Gains.{PlacesGain};
+ghost use Rattle.flow_recover.specs.Visits.{AreVisits};
+ghost use Rattle.flow_recover.specs.Claims.{enters_by as enters_by_aim, claim_at, AreClaims, EntersAt};
 
-use crate::aims::{aim_of, has_offset, offset_in};
-use crate::charts::Chart;
-use crate::instructions::instr_of;
+use crate::aims::{Aim, has_offset, is_branch, offset_in};
 use crate::named::Claim;
-use crate::nodes::Node;
-use elf_model::{Limit, Object};
+use crate::visits::Visit;
+use elf_model::Object;
 use std::alloc::{AllocError, Global};
+use std::collections::BTreeSet;
 
-/// Where the instruction at a node leads, if to an offset of its own section.
-fn claim_of(o: &Object, chart: &Chart, n: Node) -> Option<Claim>
-    requires within { IsTrue (is_within o.now Limit.ANY) }
-    requires chart { IsChart o.now chart.now }
-    ensures { (c : Claim) → (result ≡ Some c) ↔ IsNodeClaim o.now n c }
+/// Whether control enters where a branch, or else a call, leads.
+fn enters_by(branch: bool, aim: Aim) -> bool
+    ensures { result ≡ enters_by_aim branch aim }
 {
-    match instr_of(o, chart, n) {
-        None => None,
-        Some(i) => if has_offset(&i) {
-            match offset_in(aim_of(o, chart, n, &i)) {
-                None => None,
-                Some(x) => Some(Claim {
-                    section: n.section,
-                    offset: x,
-                    from_section: n.section,
-                    from_offset: n.offset,
-                }),
-            }
-        } else {
-            None
-        },
+    match aim {
+        Aim::Near(_) => !branch,
+        Aim::Shared(_) => true,
+        Aim::Fixed => false,
+        Aim::Far => false,
     }
 }
 
-/// Adds where the instruction at a node leads.
-fn push_claim(claims: &mut Vec<Claim>, o: &Object, chart: &Chart, n: Node) -> Result<(), AllocError>
-    requires within { IsTrue (is_within o.now Limit.ANY) }
-    requires chart { IsChart o.now chart.now }
-    ensures { OnOk result (Gains (IsNodeClaim o.now n) claims.old.items claims.new.items) }
+/// Where an instruction leads, if to an offset of its own section.
+#[tactic(auto, unfolding(crate::specs::Claims::claim_at))]
+fn claim_of(v: &Visit) -> Option<Claim>
+    ensures { result ≡ claim_at v.now }
 {
-    match claim_of(o, chart, n) {
-        None => Ok(()),
-        Some(c) => {
-            claims.push(c)?;
-            Ok(())
-        }
+    if !has_offset(&v.instr) {
+        return None;
     }
+    match offset_in(v.aim) {
+        None => None,
+        Some(x) => Some(Claim {
+            section: v.node.section,
+            offset: x,
+            from_section: v.node.section,
+            from_offset: v.node.offset,
+            entry: enters_by(is_branch(&v.instr), v.aim),
+        }),
+    }
+}
+
+/// Where instructions lead in their own section.
+fn led_places(alloc: Global, visits: &[Visit]) -> Result<Vec<Claim>, AllocError>
+    ensures { IfOk result (λ claims. claims.items ≡ filter_map claim_at visits.now) }
+{
+    visits.iter().filter_map(|v| claim_of(v)).collect(alloc)
 }
 
 /// What the object names, and where the instructions that control reaches lead.
 pub(crate) fn all_claims(
     alloc: Global,
     o: &Object,
-    chart: &Chart,
     named: &[Claim],
-    nodes: &[Node],
+    visits: &[Visit],
 ) -> Result<Vec<Claim>, AllocError>
-    requires within { IsTrue (is_within o.now Limit.ANY) }
-    requires chart { IsChart o.now chart.now }
     requires named { AreNamed o.now named.now }
-    requires nodes { AreNodes o.now nodes.now }
+    requires visits { AreVisits o.now visits.now }
     ensures { IfOk result (λ claims. AreClaims o.now claims.items) }
 {
     let mut claims = Vec::from_slice(alloc, named)?;
-    for n in nodes {
-        push_claim(&mut claims, o, chart, *n)?;
-    }
+    let led = led_places(alloc, visits)?;
+    claims.extend_from_slice(&led)?;
     Ok(claims)
+}
+
+/// Adds the place of a claim, if control enters there.
+fn note_entry(places: &mut BTreeSet<(u32, u32)>, c: &Claim) -> Result<(), AllocError>
+    ensures { OnOk result (PlacesGain (λ j x. EntersAt c.now (j, x)) places.old places.new) }
+{
+    if c.entry {
+        places.insert((c.section, c.offset))?;
+    }
+    Ok(())
+}
+
+/// Where control enters: what the object names, and where calls and transfers lead in their own section.
+pub(crate) fn entry_places(
+    alloc: Global,
+    o: &Object,
+    claims: &[Claim],
+) -> Result<BTreeSet<(u32, u32)>, AllocError>
+    requires { AreClaims o.now claims.now }
+    ensures { IfOk result (λ places. (j x : ℕ) → (contains place_cmp places (j, x) ≡ true) ↔ IsEntry o.now j x) }
+{
+    let mut places = BTreeSet::new(alloc);
+    for c in claims {
+        note_entry(&mut places, c)?;
+    }
+    Ok(places)
 }

@@ -8,13 +8,15 @@ ghost use Rattle.code_ranges.specs.Spans.{place_cmp};
 ghost use Rattle.reloc_places.specs.Starts.{behind};
 ghost use Rattle.flow_recover.specs.Reach.{falls, is_call, may_fall as may_fall_of, IsDeadEnd, GoesOn, EndsAt, node_behind as node_behind_of, LeadsOn, LeadsAway};
 ghost use Rattle.flow_recover.specs.Charts.{IsChart};
-ghost use Rattle.flow_recover.specs.Walks.{IsStartBehind, IsStartAimed};
+ghost use Rattle.flow_recover.specs.Visits.{IsVisit};
+ghost use Rattle.flow_recover.specs.Walks.{IsStartAimed};
 
-use crate::aims::{aim_of, has_offset, offset_in};
+use crate::aims::{has_offset, offset_in};
 use crate::charts::Chart;
 use crate::dead_ends::is_dead_end;
-use crate::instructions::{behind, instr_of};
+use crate::instructions::behind;
 use crate::nodes::Node;
+use crate::visits::Visit;
 use elf_model::{Limit, Object};
 use reloc_places::{may_fail, state_behind};
 use thumb_instr::{Instr, block_condition};
@@ -89,67 +91,55 @@ fn started(chart: &Chart, n: Node) -> Option<Node>
 }
 
 /// The node behind an instruction.
-pub(crate) fn node_behind(o: &Object, n: Node, i: &Instr) -> Node
-    requires { n.offset < 2 ^ 24 }
-    ensures { result ≡ node_behind_of o.now n i.now }
+pub(crate) fn node_behind(o: &Object, v: &Visit) -> Node
+    requires { IsVisit o.now v.now }
+    ensures { result ≡ node_behind_of o.now v.now.node v.now.instr }
 {
     Node {
-        section: n.section,
-        offset: behind(o, n),
-        it: state_behind(i, n.it),
+        section: v.node.section,
+        offset: v.behind,
+        it: state_behind(&v.instr, v.node.it),
     }
 }
 
-/// The node behind an instruction, if one starts there.
-fn start_behind(o: &Object, chart: &Chart, n: Node, i: &Instr) -> Option<Node>
-    requires within { IsTrue (is_within o.now Limit.ANY) }
+/// The node behind an instruction, if control goes on there.
+pub(crate) fn next_of(o: &Object, chart: &Chart, v: &Visit) -> Option<Node>
     requires chart { IsChart o.now chart.now }
-    requires low { n.offset < 2 ^ 24 }
-    ensures { (m : Node) → (result ≡ Some m) ↔ IsStartBehind o.now n i.now m }
+    requires visit { IsVisit o.now v.now }
+    ensures { (m : Node) → (result ≡ Some m) ↔ LeadsOn o.now v.now.node m }
 {
-    started(chart, node_behind(o, n, i))
-}
-
-/// The node behind, if control goes on there.
-pub(crate) fn next_of(o: &Object, chart: &Chart, n: Node) -> Option<Node>
-    requires within { IsTrue (is_within o.now Limit.ANY) }
-    requires chart { IsChart o.now chart.now }
-    ensures { (m : Node) → (result ≡ Some m) ↔ LeadsOn o.now n m }
-{
-    let i = instr_of(o, chart, n)?;
-    if goes_on(o, chart, n, &i) {
-        start_behind(o, chart, n, &i)
+    if v.goes_on {
+        started(chart, node_behind(o, v))
     } else {
         None
     }
 }
 
-/// The node of its section to which a branch or call leads, if an instruction starts there.
-fn start_aimed(o: &Object, chart: &Chart, n: Node, i: &Instr) -> Option<Node>
-    requires within { IsTrue (is_within o.now Limit.ANY) }
+/// The node of its section that an aim leads to, if an instruction starts there.
+fn start_aimed(o: &Object, chart: &Chart, v: &Visit) -> Option<Node>
     requires chart { IsChart o.now chart.now }
-    ensures { (m : Node) → (result ≡ Some m) ↔ IsStartAimed o.now n i.now m }
+    requires visit { IsVisit o.now v.now }
+    ensures { (m : Node) → (result ≡ Some m) ↔ IsStartAimed o.now v.now.node v.now.instr m }
 {
-    let offset = offset_in(aim_of(o, chart, n, i))?;
+    let offset = offset_in(v.aim)?;
     started(
         chart,
         Node {
-            section: n.section,
+            section: v.node.section,
             offset,
             it: 0,
         },
     )
 }
 
-/// The node that the branch or call at a node leads to in its section, if one starts there.
-pub(crate) fn aimed_of(o: &Object, chart: &Chart, n: Node) -> Option<Node>
-    requires within { IsTrue (is_within o.now Limit.ANY) }
+/// The node that a branch or call leads to in its section, if an instruction starts there.
+pub(crate) fn aimed_of(o: &Object, chart: &Chart, v: &Visit) -> Option<Node>
     requires chart { IsChart o.now chart.now }
-    ensures { (m : Node) → (result ≡ Some m) ↔ LeadsAway o.now n m }
+    requires visit { IsVisit o.now v.now }
+    ensures { (m : Node) → (result ≡ Some m) ↔ LeadsAway o.now v.now.node m }
 {
-    let i = instr_of(o, chart, n)?;
-    if has_offset(&i) {
-        start_aimed(o, chart, n, &i)
+    if has_offset(&v.instr) {
+        start_aimed(o, chart, v)
     } else {
         None
     }

@@ -1,44 +1,29 @@
 //! What stands in the way of a flow.
 
-ghost use Rattle.std.specs.Prelude.{◌≡◌, ◌↔◌, ◌<◌, ◌^◌, ℕ, true, IfOk, OnOk, IsTrue};
+ghost use Rattle.std.specs.Prelude.{◌≡◌, ◌↔◌, ℕ, true, [], IfOk, OnOk, IsTrue};
 ghost use Rattle.elf_model.specs.Objects.{is_within};
 ghost use Rattle.code_ranges.specs.Spots.{spot_of as spot_at};
 ghost use Rattle.reloc_places.specs.Starts.{HasStart};
-ghost use Rattle.flow_recover.specs.FlowFaults.{refusal_of as refusal_of_bad, IsInBlock};
+ghost use Rattle.flow_recover.specs.FlowFaults.{IsInBlock};
 ghost use Rattle.flow_recover.specs.Gains.{Gains, has_place, IsFrom};
-ghost use Rattle.flow_recover.specs.Charts.{IsChart, AreNamed, AreNodes, AreFaults};
-ghost use Rattle.flow_recover.specs.NodeFaults.{is_adr as is_adr_of, is_fixed as is_fixed_aim, literal_of as literal_of_instr, IsAbsolute, LacksWord, RunsOut, IsInstrSpot, IsGoodSpot, IsBadSpot, IsNodeSpot, IsClaimSpot, IsWrongClaim};
+ghost use Rattle.flow_recover.specs.Charts.{IsChart, AreFaults};
+ghost use Rattle.flow_recover.specs.Visits.{IsVisit, AreVisits};
+ghost use Rattle.flow_recover.specs.Claims.{AreClaims};
+ghost use Rattle.flow_recover.specs.NodeFaults.{is_adr as is_adr_of, is_fixed as is_fixed_aim, literal_of as literal_of_instr, IsAbsolute, LacksWord, RunsOut, IsReachedBad, IsVisitSpot, IsClaimSpot, IsWrongClaim};
 
-use crate::aims::{Aim, aim_of, has_offset};
+use crate::aims::{Aim, has_offset};
 use crate::blocks::{block_places, is_cut};
 use crate::charts::Chart;
-use crate::claims::all_claims;
 use crate::edges::may_fall;
-use crate::instructions::{behind, found, instr_of};
 use crate::literals::literal_place;
 use crate::named::Claim;
-use crate::nodes::Node;
-use crate::reloc_faults::{push_arm_addresses, push_wrong_relocs};
+use crate::reloc_faults::push_relocs;
+use crate::visits::Visit;
 use code_ranges::spot_of;
 use elf_model::{Limit, Object, Refusal, Spot};
 use std::alloc::{AllocError, Global};
 use std::collections::BTreeSet;
-use thumb_instr::{BadInstr, Instr, Literal};
-
-/// Why halfwords that are no instruction are refused.
-fn refusal_of(b: BadInstr) -> Refusal
-    ensures { result ≡ refusal_of_bad b }
-{
-    match b {
-        BadInstr::Unknown => Refusal::Unknown,
-        BadInstr::Unpredictable => Refusal::Unpredictable,
-        BadInstr::SupervisorCall => Refusal::SupervisorCall,
-        BadInstr::TableBranch => Refusal::TableBranch,
-        BadInstr::ReadsAndSetsFlags => Refusal::ReadsAndSetsFlags,
-        BadInstr::SystemInstr => Refusal::SystemInstr,
-        BadInstr::PcOperand => Refusal::PcOperand,
-    }
-}
+use thumb_instr::{Instr, Literal};
 
 /// Whether an instruction starts at an offset of a section.
 fn has_start(o: &Object, chart: &Chart, section: u32, offset: u32) -> bool
@@ -70,14 +55,13 @@ fn is_fixed(a: Aim) -> bool
     }
 }
 
-/// Whether the instruction at a node leads to an absolute address.
-fn is_absolute(o: &Object, chart: &Chart, n: Node, i: &Instr) -> bool
-    requires within { IsTrue (is_within o.now Limit.ANY) }
-    requires chart { IsChart o.now chart.now }
-    ensures { (result ≡ true) ↔ IsAbsolute o.now n i.now }
+/// Whether an instruction leads to an absolute address.
+fn is_absolute(o: &Object, v: &Visit) -> bool
+    requires { IsVisit o.now v.now }
+    ensures { (result ≡ true) ↔ IsAbsolute o.now v.now.node v.now.instr }
 {
-    if has_offset(i) {
-        is_fixed(aim_of(o, chart, n, i))
+    if has_offset(&v.instr) {
+        is_fixed(v.aim)
     } else {
         false
     }
@@ -93,36 +77,36 @@ fn literal_of(i: &Instr) -> Option<Literal>
     }
 }
 
-/// Whether the instruction at a node loads what is no word of data.
-fn lacks_word(o: &Object, chart: &Chart, n: Node, i: &Instr) -> bool
+/// Whether an instruction loads what is no word of data.
+fn lacks_word(o: &Object, chart: &Chart, v: &Visit) -> bool
     requires chart { IsChart o.now chart.now }
-    requires low { n.offset < 2 ^ 24 }
-    ensures { (result ≡ true) ↔ LacksWord o.now n i.now }
+    requires visit { IsVisit o.now v.now }
+    ensures { (result ≡ true) ↔ LacksWord o.now v.now.node v.now.instr }
 {
-    match literal_of(i) {
+    match literal_of(&v.instr) {
         None => false,
-        Some(l) => match literal_place(n.offset, &l) {
+        Some(l) => match literal_place(v.node.offset, &l) {
             None => true,
-            Some(w) => !chart.words.contains(&(n.section, w)),
+            Some(w) => !chart.words.contains(&(v.node.section, w)),
         },
     }
 }
 
-/// Whether control goes on from the instruction at a node to where no code is.
-fn runs_out(o: &Object, chart: &Chart, n: Node, i: &Instr) -> bool
+/// Whether control goes on from an instruction to where no code is.
+fn runs_out(o: &Object, chart: &Chart, v: &Visit) -> bool
     requires chart { IsChart o.now chart.now }
-    requires low { n.offset < 2 ^ 24 }
-    ensures { (result ≡ true) ↔ RunsOut o.now n i.now }
+    requires visit { IsVisit o.now v.now }
+    ensures { (result ≡ true) ↔ RunsOut o.now v.now.node v.now.instr }
 {
-    if may_fall(n, i) {
-        !has_start(o, chart, n.section, behind(o, n))
+    if may_fall(v.node, &v.instr) {
+        !has_start(o, chart, v.node.section, v.behind)
     } else {
         false
     }
 }
 
 /// Adds a spot, if a test holds.
-fn push_if(
+pub(crate) fn push_if(
     spots: &mut Vec<Spot>,
     test: bool,
     refusal: Refusal,
@@ -137,81 +121,35 @@ fn push_if(
     Ok(())
 }
 
-/// Adds what an instruction at a node is at fault for.
-fn push_instr(
+/// Adds what an instruction is at fault for.
+fn push_visit(spots: &mut Vec<Spot>, o: &Object, chart: &Chart, v: &Visit) -> Result<(), AllocError>
+    requires within { IsTrue (is_within o.now Limit.ANY) }
+    requires chart { IsChart o.now chart.now }
+    requires visit { IsVisit o.now v.now }
+    ensures { OnOk result (Gains (IsVisitSpot o.now v.now) spots.old.items spots.new.items) }
+{
+    let (j, x) = (v.node.section, v.node.offset);
+    push_if(spots, is_adr(&v.instr), Refusal::PcOperand, j, x)?;
+    push_if(spots, is_absolute(o, v), Refusal::IntoMiddle, j, x)?;
+    push_if(spots, lacks_word(o, chart, v), Refusal::IntoMiddle, j, x)?;
+    push_if(spots, runs_out(o, chart, v), Refusal::FallsOff, j, x)?;
+    push_if(spots, is_cut(o, chart, v), Refusal::FallsOff, j, x)
+}
+
+/// Adds what each instruction is at fault for.
+fn push_visits(
     spots: &mut Vec<Spot>,
     o: &Object,
     chart: &Chart,
-    n: Node,
-    i: &Instr,
+    visits: &[Visit],
 ) -> Result<(), AllocError>
     requires within { IsTrue (is_within o.now Limit.ANY) }
     requires chart { IsChart o.now chart.now }
-    requires low { n.offset < 2 ^ 24 }
-    ensures { OnOk result (Gains (IsInstrSpot o.now n i.now) spots.old.items spots.new.items) }
+    requires visits { AreVisits o.now visits.now }
+    ensures { OnOk result (Gains (IsFrom (IsVisitSpot o.now) visits.now) spots.old.items spots.new.items) }
 {
-    let (j, x) = (n.section, n.offset);
-    push_if(spots, is_adr(i), Refusal::PcOperand, j, x)?;
-    push_if(
-        spots,
-        is_absolute(o, chart, n, i),
-        Refusal::IntoMiddle,
-        j,
-        x,
-    )?;
-    push_if(spots, lacks_word(o, chart, n, i), Refusal::IntoMiddle, j, x)?;
-    push_if(spots, runs_out(o, chart, n, i), Refusal::FallsOff, j, x)?;
-    push_if(spots, is_cut(o, chart, n), Refusal::FallsOff, j, x)
-}
-
-/// Adds what the instruction at a node is at fault for, if there is one.
-fn push_good(spots: &mut Vec<Spot>, o: &Object, chart: &Chart, n: Node) -> Result<(), AllocError>
-    requires within { IsTrue (is_within o.now Limit.ANY) }
-    requires chart { IsChart o.now chart.now }
-    ensures { OnOk result (Gains (IsGoodSpot o.now n) spots.old.items spots.new.items) }
-{
-    match instr_of(o, chart, n) {
-        None => Ok(()),
-        Some(i) => push_instr(spots, o, chart, n, &i),
-    }
-}
-
-/// Adds halfwords at a node that are no instruction.
-fn push_bad(spots: &mut Vec<Spot>, o: &Object, chart: &Chart, n: Node) -> Result<(), AllocError>
-    requires within { IsTrue (is_within o.now Limit.ANY) }
-    requires chart { IsChart o.now chart.now }
-    ensures { OnOk result (Gains (IsBadSpot o.now n) spots.old.items spots.new.items) }
-{
-    match found(o, chart, n) {
-        None => Ok(()),
-        Some(Ok(_)) => Ok(()),
-        Some(Err(b)) => push_if(spots, true, refusal_of(b), n.section, n.offset),
-    }
-}
-
-/// Adds what stands in the way at a node.
-fn push_node(spots: &mut Vec<Spot>, o: &Object, chart: &Chart, n: Node) -> Result<(), AllocError>
-    requires within { IsTrue (is_within o.now Limit.ANY) }
-    requires chart { IsChart o.now chart.now }
-    ensures { OnOk result (Gains (IsNodeSpot o.now n) spots.old.items spots.new.items) }
-{
-    push_bad(spots, o, chart, n)?;
-    push_good(spots, o, chart, n)
-}
-
-/// Adds what stands in the way at each node.
-fn push_nodes(
-    spots: &mut Vec<Spot>,
-    o: &Object,
-    chart: &Chart,
-    nodes: &[Node],
-) -> Result<(), AllocError>
-    requires within { IsTrue (is_within o.now Limit.ANY) }
-    requires chart { IsChart o.now chart.now }
-    ensures { OnOk result (Gains (IsFrom (IsNodeSpot o.now) nodes.now) spots.old.items spots.new.items) }
-{
-    for n in nodes {
-        push_node(spots, o, chart, *n)?;
+    for v in visits {
+        push_visit(spots, o, chart, v)?;
     }
     Ok(())
 }
@@ -250,26 +188,27 @@ fn push_claims(
     Ok(())
 }
 
-/// All faults of an object's flow, in no order.
+/// All faults of an object's flow, in no order: those of halfwords that are no instruction, and behind them
+/// all others.
 pub(crate) fn flow_spots(
     alloc: Global,
     o: &Object,
     chart: &Chart,
-    named: &[Claim],
-    nodes: &[Node],
+    claims: &[Claim],
+    visits: &[Visit],
+    bad: Vec<Spot>,
 ) -> Result<Vec<Spot>, AllocError>
     requires within { IsTrue (is_within o.now Limit.ANY) }
     requires chart { IsChart o.now chart.now }
-    requires named { AreNamed o.now named.now }
-    requires nodes { AreNodes o.now nodes.now }
+    requires claims { AreClaims o.now claims.now }
+    requires visits { AreVisits o.now visits.now }
+    requires bad { Gains (IsReachedBad o.now) [] bad.items }
     ensures { IfOk result (λ spots. AreFaults o.now spots.items) }
 {
-    let claims = all_claims(alloc, o, chart, named, nodes)?;
-    let places = block_places(alloc, o, chart, nodes)?;
-    let mut spots = Vec::new(alloc);
-    push_nodes(&mut spots, o, chart, nodes)?;
-    push_claims(&mut spots, o, chart, &places, &claims)?;
-    push_wrong_relocs(&mut spots, o, chart)?;
-    push_arm_addresses(&mut spots, o, chart)?;
+    let places = block_places(alloc, o, chart, visits)?;
+    let mut spots = bad;
+    push_visits(&mut spots, o, chart, visits)?;
+    push_claims(&mut spots, o, chart, &places, claims)?;
+    push_relocs(&mut spots, o, chart)?;
     Ok(spots)
 }

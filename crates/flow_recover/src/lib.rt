@@ -7,7 +7,6 @@ mod charts;
 mod claims;
 mod dead_ends;
 mod edges;
-mod entries;
 mod flow_faults;
 mod flows;
 mod indexes;
@@ -22,6 +21,7 @@ mod reach;
 mod recovery;
 mod references;
 mod reloc_faults;
+mod visits;
 
 pub use code_ranges::{
     Range, Span, all_ranges, code_ranges, first_of, objects_have_one_list_of_ranges,

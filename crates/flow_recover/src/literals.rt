@@ -1,20 +1,21 @@
 //! The words that literal loads name.
 
-ghost use Rattle.std.specs.Prelude.{◌≡◌, ◌↔◌, ◌≤◌, ◌^◌, ℕ, Some, true, map, length, ◌+◌, IfOk, OnOk, IsTrue};
+ghost use Rattle.std.specs.Prelude.{◌≡◌, ◌↔◌, ◌≤◌, ◌^◌, ℕ, Some, true, map, length, ◌+◌, IfOk, OnOk};
 ghost use Rattle.std.specs.BTreeSet.{contains, btree_set_len, IsOrdered};
-ghost use Rattle.elf_model.specs.Objects.{ObjectParts, is_within};
+ghost use Rattle.elf_model.specs.Objects.{ObjectParts};
 ghost use Rattle.code_ranges.specs.Spans.{place_cmp};
 ghost use Rattle.flow_recover.specs.FlowFaults.{literal_place as literal_place_of};
 ghost use Rattle.reloc_places.specs.Relocations.{reloc_at};
-ghost use Rattle.flow_recover.specs.Charts.{IsChart, AreNodes};
+ghost use Rattle.flow_recover.specs.Charts.{IsChart};
 ghost use Rattle.flow_recover.specs.Gains.{PlacesGain};
+ghost use Rattle.flow_recover.specs.Visits.{IsVisit, AreVisits};
 ghost use Rattle.flow_recover.specs.Settled.{IsNamedBy, IsLoad, IsLoadedPlace, ArePlaces, word_at};
 
 use crate::PoolWord;
 use crate::charts::Chart;
-use crate::instructions::found;
 use crate::nodes::Node;
-use elf_model::{Limit, Object};
+use crate::visits::Visit;
+use elf_model::Object;
 use std::alloc::{AllocError, Global};
 use std::collections::BTreeSet;
 use thumb_instr::{Instr, Literal};
@@ -49,33 +50,13 @@ fn named_by(n: Node, i: &Instr) -> Option<(u32, u32)>
     }
 }
 
-/// The same of what stands at a node.
-fn load_of(o: &Object, chart: &Chart, n: Node) -> Option<(u32, u32)>
-    requires within { IsTrue (is_within o.now Limit.ANY) }
-    requires chart { IsChart o.now chart.now }
-    ensures { (p : ℕ × ℕ) → (result ≡ Some p) ↔ IsLoad o.now n p }
-{
-    o.sound();
-    match found(o, chart, n) {
-        Some(Ok(i)) => named_by(n, &i),
-        Some(Err(_)) => None,
-        None => None,
-    }
-}
-
-/// Adds the place that the load at a node names.
-fn note_load(
-    places: &mut BTreeSet<(u32, u32)>,
-    o: &Object,
-    chart: &Chart,
-    n: Node,
-) -> Result<(), AllocError>
-    requires within { IsTrue (is_within o.now Limit.ANY) }
-    requires chart { IsChart o.now chart.now }
-    ensures loads { OnOk result (PlacesGain (λ j x. IsLoad o.now n (j, x)) places.old places.new) }
+/// Adds the place that an instruction names.
+fn note_load(places: &mut BTreeSet<(u32, u32)>, o: &Object, v: &Visit) -> Result<(), AllocError>
+    requires { IsVisit o.now v.now }
+    ensures loads { OnOk result (PlacesGain (λ j x. IsLoad o.now v.now.node (j, x)) places.old places.new) }
     ensures len { OnOk result (btree_set_len places.new ≤ btree_set_len places.old + 1) }
 {
-    match load_of(o, chart, n) {
+    match named_by(v.node, &v.instr) {
         Some(place) => {
             places.insert(place)?;
             Ok(())
@@ -88,18 +69,15 @@ fn note_load(
 fn loaded_places(
     alloc: Global,
     o: &Object,
-    chart: &Chart,
-    nodes: &[Node],
+    visits: &[Visit],
 ) -> Result<BTreeSet<(u32, u32)>, AllocError>
-    requires within { IsTrue (is_within o.now Limit.ANY) }
-    requires chart { IsChart o.now chart.now }
-    requires nodes { AreNodes o.now nodes.now }
+    requires { AreVisits o.now visits.now }
     ensures exact { IfOk result (λ places. (p : ℕ × ℕ) → (contains place_cmp places p ≡ true) ↔ IsLoadedPlace o.now p) }
-    ensures few { IfOk result (λ places. btree_set_len places ≤ length nodes.now) }
+    ensures few { IfOk result (λ places. btree_set_len places ≤ length visits.now) }
 {
     let mut places = BTreeSet::new(alloc);
-    for n in nodes {
-        note_load(&mut places, o, chart, *n)?;
+    for v in visits {
+        note_load(&mut places, o, v)?;
     }
     Ok(places)
 }
@@ -116,16 +94,13 @@ fn listed(alloc: Global, places: &BTreeSet<(u32, u32)>) -> Result<Vec<(u32, u32)
 pub(crate) fn word_places(
     alloc: Global,
     o: &Object,
-    chart: &Chart,
-    nodes: &[Node],
+    visits: &[Visit],
 ) -> Result<Vec<(u32, u32)>, AllocError>
-    requires within { IsTrue (is_within o.now Limit.ANY) }
-    requires chart { IsChart o.now chart.now }
-    requires nodes { AreNodes o.now nodes.now }
+    requires { AreVisits o.now visits.now }
     ensures exact { IfOk result (λ places. ArePlaces o.now places.items) }
-    ensures few { IfOk result (λ places. length places.items ≤ length nodes.now) }
+    ensures few { IfOk result (λ places. length places.items ≤ length visits.now) }
 {
-    let places = loaded_places(alloc, o, chart, nodes)?;
+    let places = loaded_places(alloc, o, visits)?;
     let list = listed(alloc, &places)?;
     Ok(list)
 }

@@ -4,7 +4,7 @@ ghost use Rattle.std.specs.Prelude.{◌≡◌, ℕ, Some, slice_get, IfOk, OnOk,
 ghost use Rattle.elf_model.specs.Objects.{is_within};
 ghost use Rattle.flow_recover.specs.Aims.{is_entry as is_entry_symbol};
 ghost use Rattle.flow_recover.specs.Gains.{Gains, IsFrom};
-ghost use Rattle.flow_recover.specs.NamedClaims.{entry_claim as entry_claim_of, IsEntryClaim, IsAddressClaim, IsBranchClaim};
+ghost use Rattle.flow_recover.specs.NamedClaims.{entry_claim as entry_claim_of, IsEntryClaim, IsAddressClaim, IsBranchClaim, IsRelocClaim};
 ghost use Rattle.flow_recover.specs.Charts.{IsChart, AreNamed};
 
 use crate::charts::Chart;
@@ -14,13 +14,14 @@ use elf_model::{Limit, Object, Reloc, Symbol};
 use reloc_places::even;
 use std::alloc::{AllocError, Global};
 
-/// A place that control is sent to, and the place that sends it there.
+/// A place that control is sent to, and the place that sends it there. At an entry, it enters.
 #[derive(Clone, Copy, Debug)]
 pub(crate) struct Claim {
     pub(crate) section: u32,
     pub(crate) offset: u32,
     pub(crate) from_section: u32,
     pub(crate) from_offset: u32,
+    pub(crate) entry: bool,
 }
 
 /// A function, or a symbol that other objects see.
@@ -42,6 +43,7 @@ fn entry_claim(o: &Object, s: &Symbol) -> Option<Claim>
                 offset: even(s.value),
                 from_section: j,
                 from_offset: even(s.value),
+                entry: true,
             }),
         }
     } else {
@@ -87,19 +89,8 @@ fn push_address(
             offset: even(a.value),
             from_section: r.section,
             from_offset: r.offset,
+            entry: true,
         })?;
-    }
-    Ok(())
-}
-
-/// Adds the addresses of code that relocations make.
-fn push_addresses(claims: &mut Vec<Claim>, o: &Object, chart: &Chart) -> Result<(), AllocError>
-    requires within { IsTrue (is_within o.now Limit.ANY) }
-    requires chart { IsChart o.now chart.now }
-    ensures { OnOk result (Gains (IsFrom (IsAddressClaim o.now) o.now.relocs) claims.old.items claims.new.items) }
-{
-    for r in o.relocs() {
-        push_address(claims, o, chart, r)?;
     }
     Ok(())
 }
@@ -122,18 +113,20 @@ fn push_branch(
             offset: t.value,
             from_section: r.section,
             from_offset: r.offset,
+            entry: true,
         })?;
     }
     Ok(())
 }
 
-/// Adds where branches from another section lead by their relocations.
-fn push_branches(claims: &mut Vec<Claim>, o: &Object, chart: &Chart) -> Result<(), AllocError>
+/// Adds what relocations name: addresses of code, and where branches from another section lead.
+fn push_relocs(claims: &mut Vec<Claim>, o: &Object, chart: &Chart) -> Result<(), AllocError>
     requires within { IsTrue (is_within o.now Limit.ANY) }
     requires chart { IsChart o.now chart.now }
-    ensures { OnOk result (Gains (IsFrom (IsBranchClaim o.now) o.now.relocs) claims.old.items claims.new.items) }
+    ensures { OnOk result (Gains (IsFrom (IsRelocClaim o.now) o.now.relocs) claims.old.items claims.new.items) }
 {
     for r in o.relocs() {
+        push_address(claims, o, chart, r)?;
         push_branch(claims, o, chart, r)?;
     }
     Ok(())
@@ -152,7 +145,6 @@ pub(crate) fn named_places(
 {
     let mut claims = Vec::new(alloc);
     push_entries(&mut claims, o)?;
-    push_addresses(&mut claims, o, chart)?;
-    push_branches(&mut claims, o, chart)?;
+    push_relocs(&mut claims, o, chart)?;
     Ok(claims)
 }

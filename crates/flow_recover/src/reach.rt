@@ -7,12 +7,16 @@ ghost use Rattle.std.specs.Vec.{vec_len};
 ghost use Rattle.elf_model.specs.Objects.{is_within};
 ghost use Rattle.flow_recover.specs.Charts.{IsChart, AreNamed, AreNodes, node_cmp};
 ghost use Rattle.flow_recover.specs.Gains.{Gains};
+ghost use Rattle.reloc_places.specs.Starts.{HasStart};
+ghost use Rattle.flow_recover.specs.Visits.{IsVisit};
 ghost use Rattle.flow_recover.specs.Walks.{AreSeeds, Leads, HasReached};
 
 use crate::charts::Chart;
 use crate::edges::{aimed_of, next_of};
+use crate::instructions::found;
 use crate::named::Claim;
 use crate::nodes::Node;
+use crate::visits::{Visit, visit_of};
 use elf_model::{Limit, Object};
 use std::alloc::{AllocError, Global};
 use std::collections::BTreeSet;
@@ -50,15 +54,29 @@ fn push_some(todo: &mut Vec<Node>, n: Option<Node>) -> Result<(), AllocError>
     }
 }
 
-/// Appends the nodes to which a node leads.
-fn push_led(o: &Object, chart: &Chart, n: Node, todo: &mut Vec<Node>) -> Result<(), AllocError>
+/// Appends the nodes to which an instruction leads.
+fn push_led(o: &Object, chart: &Chart, v: &Visit, todo: &mut Vec<Node>) -> Result<(), AllocError>
+    requires chart { IsChart o.now chart.now }
+    requires visit { IsVisit o.now v.now }
+    ensures led { OnOk result (Gains (Leads o.now v.now.node) todo.old.items todo.new.items) }
+    ensures len { OnOk result (vec_len todo.new ≤ vec_len todo.old + 2) }
+{
+    push_some(todo, next_of(o, chart, v))?;
+    push_some(todo, aimed_of(o, chart, v))
+}
+
+/// Appends the nodes to which a start leads.
+fn push_behind(o: &Object, chart: &Chart, n: Node, todo: &mut Vec<Node>) -> Result<(), AllocError>
     requires within { IsTrue (is_within o.now Limit.ANY) }
     requires chart { IsChart o.now chart.now }
+    requires start { HasStart o.now n.section n.offset }
     ensures led { OnOk result (Gains (Leads o.now n) todo.old.items todo.new.items) }
     ensures len { OnOk result (vec_len todo.new ≤ vec_len todo.old + 2) }
 {
-    push_some(todo, next_of(o, chart, n))?;
-    push_some(todo, aimed_of(o, chart, n))
+    match found(o, chart, n) {
+        Err(_) => Ok(()),
+        Ok(i) => push_led(o, chart, &visit_of(o, chart, n, i), todo),
+    }
 }
 
 /// The nodes that control reaches from these.
@@ -79,7 +97,7 @@ fn all_reached(
         // fewer than 2^63, so the walk ends
         nodes.len();
         if nodes.insert(n)? {
-            push_led(o, chart, n, &mut todo)?;
+            push_behind(o, chart, n, &mut todo)?;
         }
     }
     Ok(nodes)

@@ -7,17 +7,20 @@ ghost use Rattle.code_ranges.specs.CodeRanges.{AreRanges};
 ghost use Rattle.code_ranges.specs.Spans.{place_cmp};
 ghost use Rattle.flow_recover.specs.FlowFaults.{IsFlowDenial};
 ghost use Rattle.flow_recover.specs.WholeFlows.{IsFlow};
-ghost use Rattle.flow_recover.specs.Charts.{IsChart, AreNamed, AreNodes};
+ghost use Rattle.flow_recover.specs.Charts.{IsChart, AreNodes};
+ghost use Rattle.flow_recover.specs.Visits.{AreVisits, AreInOrder};
+ghost use Rattle.flow_recover.specs.Claims.{AreClaims};
 ghost use Rattle.flow_recover.specs.Settled.{IsFaultless, IsAmong, AreEntries};
 
 use crate::charts::{Chart, chart_of};
-use crate::entries::entry_places;
+use crate::claims::{all_claims, entry_places};
 use crate::flow_faults::flow_spots;
 use crate::literals::{word_places, words_at};
 use crate::named::{Claim, named_places};
 use crate::nodes::Node;
 use crate::points::points_of;
 use crate::reach::reached_nodes;
+use crate::visits::{Visit, visits_of};
 use crate::{Flow, Range, code_ranges, first_of};
 use elf_model::{Deny, Limit, Object};
 use std::alloc::{AllocError, Global};
@@ -54,22 +57,25 @@ fn flow_of(
     o: &Object,
     ranges: Vec<Range>,
     chart: &Chart,
-    named: &[Claim],
+    claims: &[Claim],
     nodes: &[Node],
+    visits: &[Visit],
 ) -> Result<Flow, AllocError>
     requires within { IsTrue (is_within o.now Limit.ANY) }
     requires ranges { AreRanges o.now ranges.items }
     requires chart { IsChart o.now chart.now }
-    requires named { AreNamed o.now named.now }
+    requires claims { AreClaims o.now claims.now }
     requires nodes { AreNodes o.now nodes.now }
+    requires visits { AreVisits o.now visits.now }
+    requires order { AreInOrder o.now nodes.now visits.now }
     requires faultless { IsFaultless o.now }
     ensures { IfOk result (λ f. IsFlow o.now f) }
 {
     o.sound();
-    let places = word_places(alloc, o, chart, nodes)?;
+    let places = word_places(alloc, o, visits)?;
     let words = words_at(alloc, chart, &places)?;
-    let points = points_of(alloc, o, chart, nodes, &places)?;
-    let entered = entry_places(alloc, o, chart, named, nodes)?;
+    let points = points_of(alloc, o, chart, nodes, visits, &places)?;
+    let entered = entry_places(alloc, o, claims)?;
     let entries = entries_of(alloc, &entered, nodes)?;
     Ok(Flow::new(points, words, entries, ranges))
 }
@@ -92,9 +98,12 @@ pub fn recover(alloc: Global, o: &Object) -> Result<Flow, Deny>
     let chart = chart_of(alloc, o, &ranges)?;
     let named = named_places(alloc, o, &chart)?;
     let nodes = reached_nodes(alloc, o, &chart, &named)?;
-    let spots = flow_spots(alloc, o, &chart, &named, &nodes)?;
+    let mut bad = Vec::new(alloc);
+    let visits = visits_of(alloc, o, &chart, &nodes, &mut bad)?;
+    let claims = all_claims(alloc, o, &named, &visits)?;
+    let spots = flow_spots(alloc, o, &chart, &claims, &visits, bad)?;
     match first_of(&spots) {
         Some(spot) => Err(Deny::Refused(spot)),
-        None => Ok(flow_of(alloc, o, ranges, &chart, &named, &nodes)?),
+        None => Ok(flow_of(alloc, o, ranges, &chart, &claims, &nodes, &visits)?),
     }
 }

@@ -1,7 +1,8 @@
-use Rattle.std.proofs.Common.{ℕ, take}
+use Rattle.std.proofs.Common.{take}
+use Rattle.flow_recover.specs.declared.visits.Visit.{Visit}
 use Rattle.flow_recover.specs.Gains.{PlacesGain, IsFrom}
 use Rattle.flow_recover.specs.NodeFaults.{IsBlockPlace}
 use Rattle.flow_recover.proofs.blocks.block_places.Given as goal
 
-abbrev pub invariant-loop-n : goal.invariant-loop-n
-invariant-loop-n l = PlacesGain (λ j x. IsFrom (λ n (p : ℕ × ℕ). IsBlockPlace l.fn.o n p.0 p.1) (take l.n-index l.nodes) (j, x)) l.initial.places l.places
+abbrev pub invariant-loop-v : goal.invariant-loop-v
+invariant-loop-v l = PlacesGain (λ j x. IsFrom (λ (v : Visit). IsBlockPlace l.fn.o v.node) (take l.v-index l.visits) (j, x)) l.initial.places l.places

@@ -5,7 +5,8 @@ use Rattle.std.specs.BTreeSet.{contains}
 use Rattle.std.specs.Vec.{vec_len}
 use Rattle.flow_recover.specs.declared.nodes.Node.{Node}
 use Rattle.flow_recover.specs.Charts.{node_cmp}
-use Rattle.flow_recover.proofs.WalkFacts.{IsWalk, emptied, walk_start, walk_known, walk_new, walk_end}
+use Rattle.flow_recover.proofs.PointFacts.{reached_starts}
+use Rattle.flow_recover.proofs.WalkFacts.{taken_reached, IsWalk, emptied, walk_start, walk_known, walk_new, walk_end}
 use Rattle.flow_recover.proofs.reach.all_reached.Goals as goal
 
 pub loop-n-init : goal.loop-n-init
@@ -14,7 +15,10 @@ loop-n-init c = walk_start c.args.o.now (λ n. contains node_cmp c.new-nodes.res
 pub loop-n-preserved-in-Continue-branch-2 : goal.loop-n-preserved-in-Continue-branch-2
 loop-n-preserved-in-Continue-branch-2 c =
     walk_new c.args.o.now (λ n. contains node_cmp c.loop-n.nodes n) c.in-Some.n c.loop-n.todo.items c.pop.new.self.items c.in-Some.ensures.items c.loop-n.invariant
-    (λ n. contains node_cmp c.insert.new.self n) c.push_led.new.todo.items c.in_ok-insert.ensures.updates.0 c.in_ok-push_led.ensures.led
+    (λ n. contains node_cmp c.insert.new.self n) c.push_behind.new.todo.items c.in_ok-insert.ensures.updates.0 c.in_ok-push_behind.ensures.led
+
+pub push_behind-requires-clause-start : goal.push_behind-requires-clause-start
+push_behind-requires-clause-start c = reached_starts c.args.o.now c.in-Some.n (taken_reached c.args.o.now (λ n. contains node_cmp c.loop-n.nodes n) c.in-Some.n c.loop-n.todo.items c.pop.new.self.items c.in-Some.ensures.items c.loop-n.invariant)
 
 pub loop-n-preserved : goal.loop-n-preserved
 loop-n-preserved c =

@@ -1,4 +1,4 @@
-use Rattle.std.proofs.Common.{◌≡◌, ◌+◌, ℕ, List, take, take_all, sym, subst, ◌∙◌, arith}
+use Rattle.std.proofs.Common.{◌≡◌, ◌+◌, ℕ, false, List, take, take_all, sym, subst, ◌∙◌, arith}
 use Rattle.std.specs.BTreeMap.{get}
 use Rattle.flow_recover.specs.declared.named.Claim.{Claim}
 use Rattle.code_ranges.specs.Spans.{place_cmp}
@@ -7,7 +7,7 @@ use Rattle.flow_recover.proofs.reach.seeds.Goals as goal
 use Rattle.flow_recover.proofs.reach.seeds.Goals.{then-contains_key+in_ok-push, else-contains_key}
 
 abbrev no_claim : Claim
-no_claim = record { section = 0; offset = 0; from_section = 0; from_offset = 0 }
+no_claim = record { section = 0; offset = 0; from_section = 0; from_offset = 0; entry = false }
 
 pub loop-c-preserved : goal.loop-c-preserved
 loop-c-preserved c =

@@ -3,6 +3,8 @@ use Rattle.std.specs.BTreeMap.{get}
 use Rattle.std.specs.BTreeSet.{contains}
 use Rattle.code_ranges.specs.Spans.{place_cmp}
 use Rattle.flow_recover.proofs.WholeFlowFacts.{nodes_below, flow_made}
+use Rattle.flow_recover.proofs.VisitFacts.{same_length}
+use Rattle.flow_recover.proofs.PointFacts.{none_bad}
 use Rattle.flow_recover.proofs.recovery.flow_of.Goals as goal
 
 pub points_of-requires-clause-few : goal.points_of-requires-clause-few
@@ -11,9 +13,13 @@ points_of-requires-clause-few c = nodes_below c.args.o.now c.args.nodes.now c.re
 pub points_of-requires-clause-few_places : goal.points_of-requires-clause-few_places
 points_of-requires-clause-few_places c =
     let nodes = nodes_below c.args.o.now c.args.nodes.now c.requires.nodes c.requires.faultless c.sound.ensures c.requires.within in
+    let visits = same_length c.args.nodes.now c.args.visits.now (c.requires.order.order (λ n b r f. none_bad c.args.o.now c.requires.faultless n b r f)) in
     let places = c.in_ok-places.ensures.few in
     let same = c.deref-2.ensures.len in
-    omega (arith, nodes, places, same)
+    omega (arith, nodes, visits, places, same)
+
+pub points_of-requires-clause-order : goal.points_of-requires-clause-order
+points_of-requires-clause-order c = c.requires.order.order (λ n b r f. none_bad c.args.o.now c.requires.faultless n b r f)
 
 pub entries_of-requires : goal.entries_of-requires
 entries_of-requires c = nodes_below c.args.o.now c.args.nodes.now c.requires.nodes c.requires.faultless c.sound.ensures c.requires.within

@@ -1,7 +1,0 @@
-use Rattle.std.proofs.Common.{take}
-use Rattle.flow_recover.specs.Gains.{Gains, IsFrom}
-use Rattle.flow_recover.specs.RelocFaults.{IsArmSpot}
-use Rattle.flow_recover.proofs.reloc_faults.push_arm_addresses.Given as goal
-
-abbrev pub invariant-loop-r : goal.invariant-loop-r
-invariant-loop-r l = Gains (IsFrom (IsArmSpot l.o) (take l.r-index l.o.relocs)) l.fn.spots.items l.spots.items
