@@ -18,6 +18,8 @@ mod forms;
 #[cfg(test)]
 mod images;
 #[cfg(test)]
+mod linked;
+#[cfg(test)]
 mod links;
 #[cfg(test)]
 mod lives;
