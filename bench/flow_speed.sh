@@ -1,7 +1,7 @@
 #!/usr/bin/env bash
-# Says how long the flow of growing code takes to recover and its live members to find, and how many sweeps over its
-# points the latter needs on compiled C functions. Outside of the gate. It needs python3, and for the second part
-# arm-none-eabi-gcc.
+# Says how long the flow of growing code takes to recover and its live members to find, also of a chain that leads back
+# to its start, and how many turns a point the latter takes on compiled C functions. Outside of the gate. It needs
+# python3, and for the last part arm-none-eabi-gcc.
 #
 #   bench/flow_speed.sh [FILE.o ..]
 #
@@ -11,7 +11,7 @@
 set -eu
 top=$(cd "$(dirname "$0")/.." && pwd)
 work=${FLOW_SPEED_FOLDER:-$(mktemp -d)}
-crates='elf_model elf_read mark_word thumb_instr thumb_decode flow_recover liveness'
+crates='elf_model elf_read index_links code_ranges mark_word thumb_instr thumb_decode reloc_places flow_recover liveness'
 mkdir -p "$work"
 
 build() {
@@ -159,7 +159,7 @@ import sys
 name, (read, recover, live), line = sys.argv[1], map(float, sys.argv[2:5]), sys.argv[5].split()
 if line[0] == "points" and len(line) == 4:
     points, turns = int(line[1]), int(line[3])
-    print("%s: %d points; recovery %.2f s, liveness %.2f s, %.1f sweeps"
+    print("%s: %d points; recovery %.2f s, liveness %.2f s, %.1f turns a point"
           % (name, points, max(0, recover - read), max(0, live - recover), turns / max(1, points)))
 else:
     print("%s: %s" % (name, " ".join(line)))
@@ -175,6 +175,10 @@ for size in 16384 65536 262144 1048576; do
   python3 "$top/bench/branching_object.py" "$size" "$work/code.o"
   tell "$work/code.o" "$size bytes of code"
 done
+for count in 30000 60000; do
+  python3 "$top/bench/chain_object.py" "$count" "$work/chain.o"
+  tell "$work/chain.o" "a chain of $count"
+done
 
 command -v arm-none-eabi-gcc > /dev/null || { echo 'arm-none-eabi-gcc is not installed' >&2; exit 0; }
 for level in -O2 -Os; do
@@ -187,8 +191,8 @@ import sys
 lines = [line.split() for line in sys.stdin]
 flows = sorted((int(turns) / int(points), int(points)) for kind, points, _, turns in
                (line for line in lines if line[0] == "points"))
-sweeps = [n for n, _ in flows]
-print("%s: %d of %d functions have a flow, of %d to %d points; %.0f to %.0f sweeps, in the middle %.0f"
-      % (sys.argv[1], len(flows), len(lines), min(p for _, p in flows), max(p for _, p in flows), sweeps[0], sweeps[-1],
-         sweeps[len(sweeps) // 2]))' "$level"
+turns = [n for n, _ in flows]
+print("%s: %d of %d functions have a flow, of %d to %d points; %.1f to %.1f turns a point, in the middle %.1f"
+      % (sys.argv[1], len(flows), len(lines), min(p for _, p in flows), max(p for _, p in flows), turns[0], turns[-1],
+         turns[len(turns) // 2]))' "$level"
 done

@@ -82,7 +82,9 @@ impl UnitChain {
         requires room { 0 < self.old.spare }
         requires there { IsBetween self.old.order before after }
         ensures index { result ≡ length self.old.order }
-        ensures order { (front back : List ℕ) → self.old.order ≡ front ++ back → before ≡ last_of None front → after ≡ first_of back None → self.new ≡ record { order = front ++ result ∷ back; spare = self.old.spare - 1 } }
+        ensures order { (front back : List ℕ) → self.old.order ≡ front ++ back → before ≡ last_of None front → after ≡ first_of back None → self.new.order ≡ front ++ result ∷ back }
+        ensures long { length self.new.order ≡ length self.old.order + 1 }
+        ensures spare { self.new.spare ≡ self.old.spare - 1 }
     {
         let unit = self.afters.len() as u32;
         self.befores.push_reserved(before);
@@ -99,7 +101,8 @@ impl UnitChain {
     pub fn push_back(&mut self) -> u32
         requires { 0 < self.old.spare }
         ensures index { result ≡ length self.old.order }
-        ensures order { self.new ≡ record { order = self.old.order ++ result ∷ []; spare = self.old.spare - 1 } }
+        ensures order { self.new.order ≡ self.old.order ++ result ∷ [] }
+        ensures spare { self.new.spare ≡ self.old.spare - 1 }
     {
         let last = self.last;
         self.put_between(last, None)
@@ -110,7 +113,9 @@ impl UnitChain {
         requires room { 0 < self.old.spare }
         requires there { at < length self.old.order }
         ensures index { result ≡ length self.old.order }
-        ensures order { (front back : List ℕ) → self.old.order ≡ front ++ at ∷ back → self.new ≡ record { order = front ++ at ∷ (result ∷ back); spare = self.old.spare - 1 } }
+        ensures order { (front back : List ℕ) → self.old.order ≡ front ++ at ∷ back → self.new.order ≡ front ++ at ∷ (result ∷ back) }
+        ensures long { length self.new.order ≡ length self.old.order + 1 }
+        ensures spare { self.new.spare ≡ self.old.spare - 1 }
     {
         let next = self.afters[at as usize];
         self.put_between(Some(at), next)

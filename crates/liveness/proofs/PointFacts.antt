@@ -1,9 +1,8 @@
 -- Points and sets by their numbers.
-use Rattle.std.proofs.Common.{◌≡◌, ◌≢◌, ◌<◌, ℕ, zero, suc, List, [], ◌∷◌, refl, sym, ap, ◌∙◌, subst, Some, length, ◌^◌, ◌↔◌, ◌||◌, true, false, IsTrue, Bool, Option}
+use Rattle.std.proofs.Common.{◌≡◌, ◌<◌, ℕ, List, refl, sym, ap, ◌∙◌, subst, Some, length, ◌^◌, ◌↔◌, ◌||◌, true, false, IsTrue, Bool, Option}
 use Rattle.std.specs.Prelude.{slice_get, All}
 use Rattle.std.proofs.Math.ListN.{get_or, set}
-use Rattle.std.proofs.lemmas.Option.{slice_get_read, slice_get-get_or, same_Some, get_or_from_slice_get, slice_get_within}
-use Rattle.std.proofs.lemmas.List.{get_or-set_same, length-set}
+use Rattle.std.proofs.lemmas.Option.{slice_get_read, same_Some, get_or_from_slice_get, slice_get_within}
 use Rattle.thumb_instr.specs.declared.register_sets.RegSet.{RegSet}
 use Rattle.thumb_instr.specs.Operands.{has}
 use Rattle.flow_recover.specs.declared.flows.Point.{Point}

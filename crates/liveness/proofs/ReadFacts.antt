@@ -1,5 +1,5 @@
 -- What points read and pass on are members.
-use Rattle.std.proofs.Common.{◌≡◌, ◌≤◌, ◌<◌, ◌^◌, ℕ, Bool, true, false, List, refl, sym, ap, ◌∙◌, inl, inr, ◌⊎◌, arith, Option, Some, None, nat_le}
+use Rattle.std.proofs.Common.{◌≡◌, ◌≤◌, ◌<◌, ◌^◌, ℕ, Bool, true, false, List, refl, sym, ap, ◌∙◌, inl, inr, arith, Option, Some, None, nat_le}
 use Rattle.std.specs.Prelude.{◌==◌, ◌&&◌, ◌||◌, not, nat_lt, slice_get}
 use Rattle.std.proofs.lemmas.Bool.{and_parts, true≢false, eqb-true, cases_lt, le-leb}
 use borrow.Author.Tests.{ltb-true}
@@ -25,7 +25,7 @@ use Rattle.flow_recover.specs.declared.flows.Exit.{Exit}
 use Rattle.flow_recover.specs.declared.flows.Exit.TheVariants as exit
 use Rattle.liveness.specs.declared.boundary.Boundary.{Boundary}
 use Rattle.liveness.specs.Paths.{branch_cond, reads_at, always_writes, passes, boundary_of, uses_at}
-use Rattle.liveness.specs.Sets.{has_in, holds_at, successors_hold, gains}
+use Rattle.liveness.specs.Sets.{has_in, successors_hold, gains}
 use Rattle.liveness.specs.Members.{ReadsRegisters, HoldMembers}
 use Rattle.liveness.proofs.PathFacts.{or_cases, or_left, or_right, successor_leads}
 

@@ -1,7 +1,7 @@
 -- A worklist, turn by turn.
-use Rattle.std.proofs.Common.{◌≡◌, ◌≢◌, ◌<◌, ◌≤◌, ◌+◌, ◌-◌, ◌*◌, ◌^◌, ℕ, zero, suc, Bool, true, false, List, [], ◌∷◌, refl, sym, ap, ◌∙◌, subst, inl, inr, ◌⊎◌, ◌↔◌, IsTrue, arith, Option, Some, None, length}
-use Rattle.std.specs.Prelude.{slice_get, Contains, count_by, ◌==◌, ◌||◌}
-use Rattle.std.proofs.lemmas.Bool.{true≢false, cases_eq, cases_lt}
+use Rattle.std.proofs.Common.{◌≡◌, ◌≢◌, ◌<◌, ◌≤◌, ◌+◌, ◌-◌, ◌^◌, ℕ, Bool, true, false, List, [], ◌∷◌, sym, ap, ◌∙◌, subst, inl, inr, arith, Option, Some, length}
+use Rattle.std.specs.Prelude.{slice_get, Contains, count_by}
+use Rattle.std.proofs.lemmas.Bool.{true≢false, cases_eq}
 use Rattle.std.proofs.lemmas.Option.{slice_get_cases, slice_get_within}
 use Rattle.std.proofs.lemmas.Bool.Decides.{nat_tests}
 use Rattle.elf_model.proofs.Elements.{contains_cases, contains_none}
@@ -16,9 +16,9 @@ use Rattle.liveness.specs.declared.boundary.Boundary.{Boundary}
 use Rattle.liveness.specs.Paths.{Leads, NamesPoints}
 use Rattle.liveness.specs.Sets.{LiveParts, has_in, holds_at, gains}
 use Rattle.liveness.specs.Edges.{edges_of}
-use Rattle.liveness.specs.Work.{AreSound, IsStableAt, lacking_below, lacking_over, IsWorking, AreSettled}
+use Rattle.liveness.specs.Work.{IsStableAt, lacking_over, IsWorking, AreSettled}
 use Rattle.liveness.proofs.PathFacts.{or_right, gains_same}
-use Rattle.liveness.proofs.TurnFacts.{IsTurn, point_at, other_same, turn_keeps, turn_sound, turn_same}
+use Rattle.liveness.proofs.TurnFacts.{IsTurn, other_same, turn_keeps, turn_sound, turn_same}
 use Rattle.liveness.proofs.EdgeFacts.{edge_of, edges_few}
 use Rattle.liveness.proofs.LackFacts.{enters, over_bound, over_falls, over_falls_at, lack_falls, lack_falls_at}
 

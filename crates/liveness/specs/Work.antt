@@ -1,11 +1,11 @@
 -- What a worklist keeps while it settles points.
-use Rattle.std.specs.Prelude.{◌≡◌, ◌<◌, ◌≤◌, ◌+◌, ◌*◌, ℕ, zero, suc, ◌&&◌, not, Bool, true, false, List, [], ◌∷◌, Option, Some, None, if◌then◌else◌, length, slice_get, sum_by, Contains}
+use Rattle.std.specs.Prelude.{◌≡◌, ◌≤◌, ◌+◌, ◌*◌, ℕ, zero, suc, ◌&&◌, not, true, List, Option, Some, None, if◌then◌else◌, length, slice_get, sum_by, Contains}
 use Rattle.thumb_instr.specs.declared.register_sets.RegSet.{RegSet}
 use Rattle.thumb_instr.specs.Operands.{has}
 use Rattle.thumb_instr.specs.Sets.{is_member}
 use Rattle.flow_recover.specs.declared.flows.Point.{Point}
 use Rattle.flow_recover.specs.Flows.{FlowParts}
-use Rattle.index_links.specs.Links.{Edge, EdgeParts}
+use Rattle.index_links.specs.Links.{Edge}
 use Rattle.index_links.specs.Queues.{PendingParts}
 use Rattle.liveness.specs.declared.boundary.Boundary.{Boundary}
 use Rattle.liveness.specs.Paths.{IsLiveBefore}

@@ -1,10 +1,12 @@
-//! Rows of calls on objects, flows and links, each with the answer that it must have.
+//! Rows of calls on objects, flows, links and lists, each with the answer that it must have.
 #![tactic(auto)]
 
 #[cfg(test)]
 mod flow_refusals;
 #[cfg(test)]
 mod flows;
+#[cfg(test)]
+mod linked;
 #[cfg(test)]
 mod links;
 #[cfg(test)]

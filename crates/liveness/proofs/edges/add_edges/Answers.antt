@@ -1,4 +1,4 @@
-use Rattle.std.proofs.Common.{◌≡◌, ◌<◌, ◌++◌, ◌∙◌, ℕ, List, Some, map, inl, inr, sym, ap, subst, append_assoc}
+use Rattle.std.proofs.Common.{◌<◌, ◌++◌, ◌∙◌, ℕ, List, map, inl, inr, sym, ap, subst, append_assoc}
 use Rattle.std.specs.Option.{option_to_list}
 use Rattle.std.proofs.lemmas.List.{map-append}
 use Rattle.index_links.specs.Links.{Edge}

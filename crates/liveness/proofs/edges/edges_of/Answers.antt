@@ -1,4 +1,4 @@
-use Rattle.std.proofs.Common.{◌≡◌, ◌<◌, ℕ, Some, List, ap, length, arith}
+use Rattle.std.proofs.Common.{◌≡◌, ◌<◌, Some, List, ap, length, arith}
 use Rattle.std.specs.Prelude.{slice_get}
 use Rattle.flow_recover.specs.declared.flows.Point.{Point}
 use Rattle.liveness.proofs.PointFacts.{read_there}

@@ -1,5 +1,4 @@
-use Rattle.std.proofs.Common.{◌≡◌, ◌<◌, ◌∙◌, ℕ, sym, subst, below_more, arith}
-use Rattle.std.specs.Prelude.{Contains}
+use Rattle.std.proofs.Common.{◌∙◌, below_more, arith}
 use Rattle.liveness.proofs.PutFacts.{IsPut, put_waits, put_keeps, put_few}
 use Rattle.liveness.proofs.worklist.all_pending.Goals as goal
 

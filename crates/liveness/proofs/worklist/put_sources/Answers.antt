@@ -1,6 +1,5 @@
-use Rattle.std.proofs.Common.{◌≡◌, ◌<◌, ◌+◌, ◌-◌, ℕ, List, Option, Some, None, refl, subst, length, arith}
-use Rattle.index_links.specs.Links.{Edge}
-use Rattle.liveness.proofs.PutFacts.{IsPutting, IsPut, putting_first, putting_more, putting_on, all_put, few_put}
+use Rattle.std.proofs.Common.{ℕ, Option, subst}
+use Rattle.liveness.proofs.PutFacts.{IsPutting, IsPut, putting_first, putting_more, all_put}
 use Rattle.liveness.proofs.worklist.put_sources.Goals as goal
 
 pub loop-edge-init : goal.loop-edge-init

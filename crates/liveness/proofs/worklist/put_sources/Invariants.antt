@@ -1,4 +1,4 @@
-use Rattle.std.proofs.Common.{ℕ, ◌-◌, length}
+use Rattle.std.proofs.Common.{◌-◌, length}
 use Rattle.liveness.proofs.PutFacts.{IsPutting, reached}
 use Rattle.liveness.proofs.worklist.put_sources.Given as goal
 

@@ -1,4 +1,4 @@
-use Rattle.std.proofs.Common.{◌≡◌, ◌<◌, ◌∙◌, ℕ, List, ap, subst, sym, length, arith}
+use Rattle.std.proofs.Common.{◌≡◌, ◌∙◌, List, ap, length, arith}
 use Rattle.flow_recover.specs.declared.flows.Point.{Point}
 use Rattle.liveness.proofs.WorkFacts.{work_first}
 use Rattle.liveness.proofs.worklist.settled.Goals as goal

@@ -1,4 +1,4 @@
-use Rattle.std.proofs.Common.{◌≡◌, ◌<◌, ◌≤◌, ◌+◌, ◌∷◌, ℕ, List, subst, sym, length, arith}
+use Rattle.std.proofs.Common.{◌≡◌, ◌≤◌, ◌+◌, List, subst, sym, length}
 use Rattle.std.specs.Prelude.{Contains, count_by}
 use Rattle.index_links.specs.Links.{Edge}
 use Rattle.liveness.specs.Edges.{edges_of}

@@ -1,4 +1,4 @@
-use Rattle.std.proofs.Common.{ℕ, ◌+◌, length}
+use Rattle.std.proofs.Common.{◌+◌, length}
 use Rattle.liveness.specs.Edges.{edges_of}
 use Rattle.liveness.specs.Work.{IsWorking, lacking_over}
 use Rattle.liveness.proofs.worklist.work.Given as goal

@@ -1,4 +1,4 @@
-use Rattle.std.proofs.Common.{◌<◌, ◌-◌, ◌∙◌, ◌++◌, ◌∷◌, [], ℕ, List, None, refl, sym, ap, subst, length, arith}
+use Rattle.std.proofs.Common.{◌<◌, ◌∙◌, ◌++◌, ◌∷◌, [], None, refl, sym, subst, length, arith}
 use Rattle.std.proofs.lemmas.Option.{slice_get_read}
 use Rattle.index_links.specs.Orders.{UnitParts, IsOrder}
 use Rattle.index_links.proofs.OrderFacts.{behind, after_at, last_push, at_end, at_unit_alone}
@@ -21,5 +21,4 @@ returns-clause-order c = λ front back e.
     let low : c.args.at < length i.afters.items = let there = c.requires.there in omega arith in
     let next = after_at i.befores.items i.afters.items i.first i.last c.args.self.now.order is front back c.args.at e c.index-next.result.now (slice_get_read i.afters.items (length i.afters.items) c.args.at c.index-next.result.now refl low c.index-next.ensures) in
     let made = c.put_between.ensures.order (front ++ c.args.at ∷ []) back (e ∙ sym (at_unit_alone front back c.args.at)) (sym (last_push None front c.args.at)) next in
-    let by_order : List ℕ → UnitParts = λ l. record { order = l; spare = c.args.self.now.spare - 1 } in
-    made ∙ ap by_order (at_end front back c.args.at c.put_between.result)
+    made ∙ at_end front back c.args.at c.put_between.result

@@ -1,4 +1,4 @@
-use Rattle.std.proofs.Common.{◌≡◌, ◌+◌, ◌-◌, ℕ, List, ◌∷◌, ◌++◌, sym, ap, ◌∙◌, subst, Option, length, length-append, drop, arith}
+use Rattle.std.proofs.Common.{◌≡◌, ◌+◌, ℕ, List, ◌∷◌, ◌++◌, sym, ap, ◌∙◌, subst, Option, length, length-append, drop, arith}
 use Rattle.std.proofs.lemmas.List.{length_push}
 use Rattle.index_links.specs.Orders.{UnitParts, IsBetween, walk}
 use Rattle.index_links.proofs.OrderFacts.{between_as, before_small, after_small, by_walk, walk_is}
@@ -60,6 +60,19 @@ returns-clause-order c = λ front back e before after.
     let new = between_as i.befores.items i.afters.items i.first i.last (walk i.afters.items i.first (length i.afters.items)) c.self.invariant.0 c.args.before c.args.after b.0 b.1 b.2 b.3 b.4
     c.push_reserved.new.self.items c.deref_mut-2.result.now c.write-2.new.links (drop (length c.write-2.new.links) c.push_reserved.new.self.items) c.push_reserved-2.new.self.items c.deref_mut.result.now c.write.new.links (drop (length c.write.new.links) c.push_reserved-2.new.self.items) c.end_with-self-inside.result c.end_with-self-inside-2.result c.len-unit.result c.push_reserved.new.self.len c.push_reserved-2.new.self.len
     unit c.push_reserved.ensures.items c.deref_mut-2.ensures.value c.write-2.ensures (sym c.deref_mut-2.ensures.len) c.push_reserved-2.ensures.items c.deref_mut.ensures.value c.write.ensures (sym c.deref_mut.ensures.len) c.end_with-self-inside.ensures c.end_with-self-inside-2.ensures in
-    let by_order : List ℕ → UnitParts = λ l. record { order = l; spare = i.spare - 1 } in
-    let by_spare : UnitParts → UnitParts = λ l. record { order = front ++ c.len-unit.result ∷ back; spare = l.spare - 1 } in
-    ap by_order (walk_is _ _ _ _ _ new) ∙ ap by_spare c.self.view_is
+    walk_is _ _ _ _ _ new
+
+pub returns-clause-long : goal.returns-clause-long
+returns-clause-long c =
+    let i = c.self.inside in
+    let order = ap (λ (l : UnitParts). l.order) c.self.view_is in
+    let b : IsBetween (walk i.afters.items i.first (length i.afters.items)) c.args.before c.args.after = subst (λ (l : List ℕ). IsBetween l c.args.before c.args.after) (sym order) c.requires.there in
+    let unit : c.len-unit.result ≡ length i.afters.items = c.len-unit.ensures ∙ i.afters.ok.0 in
+    let new = between_as i.befores.items i.afters.items i.first i.last (walk i.afters.items i.first (length i.afters.items)) c.self.invariant.0 c.args.before c.args.after b.0 b.1 b.2 b.3 b.4
+    c.push_reserved.new.self.items c.deref_mut-2.result.now c.write-2.new.links (drop (length c.write-2.new.links) c.push_reserved.new.self.items) c.push_reserved-2.new.self.items c.deref_mut.result.now c.write.new.links (drop (length c.write.new.links) c.push_reserved-2.new.self.items) c.end_with-self-inside.result c.end_with-self-inside-2.result c.len-unit.result c.push_reserved.new.self.len c.push_reserved-2.new.self.len
+    unit c.push_reserved.ensures.items c.deref_mut-2.ensures.value c.write-2.ensures (sym c.deref_mut-2.ensures.len) c.push_reserved-2.ensures.items c.deref_mut.ensures.value c.write.ensures (sym c.deref_mut.ensures.len) c.end_with-self-inside.ensures c.end_with-self-inside-2.ensures in
+    let is = ap (λ (l : List ℕ). length l) (walk_is _ _ _ _ _ new) in
+    let parts : length c.args.self.now.order ≡ length (b.0 ++ b.1) = ap (λ (l : List ℕ). length l) (sym order ∙ b.2) in
+    let old_sum = length-append b.0 b.1 in
+    let new_sum = length-append b.0 (c.len-unit.result ∷ b.1) in
+    omega arith
