@@ -1,15 +1,15 @@
 -- Where sections end that stand one behind the other.
-use Rattle.std.proofs.Common.{◌≡◌, ◌≤◌, ◌<◌, ℕ, zero, suc, ◌+◌, ◌-◌, ◌*◌, ◌^◌, Bool, true, false, List, [], ◌∷◌, ◌++◌, length, drop, get_or, map, replicate, refl, sym, ap, ◌∙◌, subst, inl, inr, arith}
-use Rattle.std.specs.Prelude.{◌⊎◌, Contains, nat_le, ◌&&◌, max}
+use Rattle.std.proofs.Common.{◌≡◌, ◌≤◌, ◌<◌, ℕ, zero, suc, ◌+◌, ◌-◌, true, false, List, [], ◌∷◌, ◌++◌, length, drop, get_or, map, replicate, sym, ap, ◌∙◌, subst, inl, inr, arith}
+use Rattle.std.specs.Prelude.{nat_le, ◌&&◌, max}
 use Rattle.std.specs.List.{list_all}
 use Rattle.std.proofs.lemmas.Bool.{and_parts, and_cases, leb-true, leb-false}
 use Rattle.std.proofs.lemmas.List.{length-append, length-replicate}
 use Rattle.elf_model.specs.declared.objects.Section.{Section}
-use Rattle.elf_model.specs.Objects.{ObjectParts, is_section, is_code, is_data}
+use Rattle.elf_model.specs.Objects.{ObjectParts, is_code, is_data}
 use Rattle.elf_model.specs.Canonical.{round_up}
-use Rattle.elf_model.proofs.Elements.{contains_cases, contains_here, contains_later, contains_none}
+use Rattle.elf_model.proofs.Elements.{contains_cases, contains_here, contains_none}
 use Rattle.thumb_table.specs.declared.placements.Placement.{Placement}
-use Rattle.thumb_table.specs.Layouts.{Placed, placed, bytes_from, part_bytes, all_chosen, code_parts, data_parts, code_bytes_of, data_bytes_of}
+use Rattle.thumb_table.specs.Layouts.{Placed, placed, bytes_from, part_bytes, all_chosen, code_bytes_of, data_bytes_of}
 use Rattle.flat_link.specs.declared.lots.Lot.{Lot}
 use Rattle.flat_link.specs.declared.sorts.Sort.{Sort}
 use Rattle.flat_link.specs.declared.sorts.Sort.TheVariants.{Code, Data}

@@ -1,18 +1,15 @@
 -- What the linker makes is the image of the objects.
-use Rattle.std.proofs.Common.{◌≡◌, ℕ, zero, suc, List, [], ◌∷◌, length, sym, arith, Some}
-use Rattle.std.specs.Prelude.{All, slice_get, Contains}
-use Rattle.std.proofs.lemmas.Option.{none-some, same_Some}
+use Rattle.std.proofs.Common.{◌≡◌, List, []}
+use Rattle.std.specs.Prelude.{All}
 use Rattle.elf_model.specs.Objects.{ObjectParts}
 use Rattle.elf_model.proofs.Lists.{All_at}
-use Rattle.thumb_table.specs.declared.placements.Placement.{Placement}
 use Rattle.thumb_table.specs.Parts.{Image}
-use Rattle.thumb_table.specs.Layouts.{IsPlacement}
 use Rattle.thumb_table.specs.Names.{Defined}
 use Rattle.thumb_table.specs.LinkFaults.{IsSecond}
 use Rattle.thumb_table.specs.Images.{IsImage}
 use Rattle.thumb_table.proofs.PlainImages.{ArePlain, plain_links, image_plain}
 use Rattle.flat_link.specs.declared.layout.Layout.{Layout}
-use Rattle.flat_link.specs.Layout.{IsLayout, Fits}
+use Rattle.flat_link.specs.Layout.{IsLayout}
 use Rattle.flat_link.specs.Made.{IsMade}
 
 pub are_plain : (objects : List ObjectParts) → All (λ o. o.relocs ≡ []) objects → ArePlain objects

@@ -1,22 +1,21 @@
 -- What names stand for, and which are defined twice.
-use Rattle.std.proofs.Common.{◌≡◌, ◌≤◌, ◌<◌, ℕ, zero, suc, ◌+◌, ◌-◌, Bool, true, false, cond, List, [], ◌∷◌, ◌++◌, length, take, get_or, map, refl, sym, ap, ◌∙◌, subst, inl, inr, arith, Option, Some, None}
-use Rattle.std.specs.Prelude.{◌⊎◌, Contains, slice_get, find, filter, nat_eq, nat_lt, ◌==◌, ◌&&◌, not, option_map, is_some}
+use Rattle.std.proofs.Common.{◌≡◌, ◌≤◌, ◌<◌, ℕ, ◌+◌, Bool, true, false, cond, List, [], ◌∷◌, length, take, get_or, map, refl, sym, ap, ◌∙◌, subst, inl, inr, arith, Option, Some, None}
+use Rattle.std.specs.Prelude.{◌⊎◌, Contains, find, filter, nat_eq, nat_lt, ◌==◌, ◌&&◌, not, option_map, is_some}
 use Rattle.std.specs.Option.{option_or, option_copied}
 use Rattle.std.specs.Borrow.{Bor}
 use Rattle.std.proofs.lemmas.Bool.{and_parts, and_from, cases_Bool, cases_eq, cases_lt, eqb-true, eq-eqb, ne_eqb, ltb-true, lt-ltb, both_ways}
-use Rattle.std.proofs.lemmas.Option.{none-some, same_Some}
+use Rattle.std.proofs.lemmas.Option.{none-some}
 use Rattle.std.proofs.lemmas.List.{map-append}
 use Rattle.std.proofs.lemmas.List.Folds.{find-append}
 use Rattle.std.proofs.lemmas.List.Elements.{filter-append}
-use Rattle.elf_model.specs.declared.objects.Symbol.{Symbol}
 use Rattle.elf_model.specs.Fields.{same_name}
 use Rattle.elf_model.specs.Objects.{ObjectParts}
 use Rattle.elf_model.proofs.Elements.{contains_filter, filter_contains, found, finds}
-use Rattle.thumb_table.specs.Names.{Defined, all_symbols, globals, weaks, resolved, is_defined}
+use Rattle.thumb_table.specs.Names.{Defined, all_symbols, globals}
 use Rattle.thumb_table.specs.LinkFaults.{StandsBefore, IsSecond, home_section}
 use Rattle.flat_link.specs.declared.known.Known.{Known}
 use Rattle.flat_link.specs.declared.names.Binding.{Binding}
-use Rattle.flat_link.specs.declared.names.Binding.TheVariants.{Global, Weak}
+use Rattle.flat_link.specs.declared.names.Binding.TheVariants.{Global}
 use Rattle.flat_link.specs.Known.{defined_of, is_bound, is_lower, lower, IsNotBehind, IsLowest, IsFirstSecond}
 use Rattle.flat_link.proofs.ListFacts.{taken, found_first, order_filter}
 use Rattle.flat_link.proofs.SymbolFacts.{symbols_rise}

@@ -1,25 +1,19 @@
 -- Parts of a list of objects: where they come from, that they lie apart, and that relocations stay in their own part.
-use Rattle.std.specs.Prelude.{◌≡◌, ◌<◌, ◌≤◌, ◌⊎◌, ℕ, zero, suc, ◌+◌, ◌-◌, ◌^◌, ◌==◌, nat_lt, nat_le, ◌&&◌, ◌||◌, not, max, Bool, true, false, cond, List, [], ◌∷◌, length, replicate, Option, Some, slice_get, Contains, refl, if◌then◌else◌}
-use Rattle.std.specs.List.{list_all, list_any}
+use Rattle.std.specs.Prelude.{◌≡◌, ◌<◌, ◌⊎◌, ℕ, zero, suc, ◌+◌, ◌==◌, ◌&&◌, ◌||◌, max, Bool, true, cond, List, [], ◌∷◌, Some, slice_get, Contains, refl}
 use Rattle.std.proofs.Common.{arith, inl, inr, ap, sym, ◌∙◌, subst}
-use Rattle.std.proofs.lemmas.Bool.{cases_Bool, both_ways, and_parts, and_from, or_cases, eq-eqb, eqb-true, leb-true, ltb-true, ltb-false}
-use Rattle.std.proofs.lemmas.List.{length-replicate}
+use Rattle.std.proofs.lemmas.Bool.{cases_Bool, and_parts, and_from, or_cases, eq-eqb, eqb-true}
 use Rattle.std.proofs.lemmas.Option.{none-some, same_Some}
 use Rattle.std.proofs.lemmas.List.Elements.{Contains-append_cases, Contains-append_left, Contains-append_right}
 use Rattle.elf_model.specs.declared.objects.Section.{Section}
 use Rattle.elf_model.specs.declared.objects.Reloc.{Reloc}
-use Rattle.elf_model.specs.Constants.{nobits}
-use Rattle.elf_model.specs.Objects.{ObjectParts, is_object, is_section, is_reloc, is_placed, is_kind, is_alignment, is_name, is_dropped_name, is_kept_kind, is_writable, is_exec, has_bytes, is_code, is_data, place_width}
+use Rattle.elf_model.specs.Objects.{ObjectParts, is_object, is_section, is_reloc, is_code, is_data}
 use Rattle.thumb_table.specs.declared.placements.Placement.{Placement}
-use Rattle.thumb_table.specs.Layouts.{Placed, chosen, all_chosen, placed, part_bytes, code_parts, data_parts, all_placed, code_bytes_of, part_of}
-use Rattle.thumb_table.specs.Links.{Link, IsLink, covers, place_of}
-use Rattle.thumb_table.specs.LinkFaults.{long_code}
-use Rattle.thumb_table.specs.Images.{CanLink}
+use Rattle.thumb_table.specs.Layouts.{Placed, chosen, all_chosen, placed, code_parts, data_parts, all_placed, part_of}
 use Rattle.flat_link.specs.Layout.{AreObjects}
 use Rattle.elf_model.proofs.Elements.{contains_cases, contains_none}
 use Rattle.elf_model.proofs.Elements.{contains_here, contains_later, found, finds, all_at}
 use Rattle.flat_link.proofs.SectionFacts.{aligned, sized}
-use Rattle.flat_link.proofs.RawBytes.{AllGood, begun, begins, ends_inside, one_part}
+use Rattle.flat_link.proofs.RawBytes.{AllGood, begun}
 
 pub section_sound : (o : ObjectParts) (j : ℕ) (s : Section) → is_object o ≡ true → slice_get o.sections j ≡ Some s → is_section s ≡ true
 section_sound o j s h at =

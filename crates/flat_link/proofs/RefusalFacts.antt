@@ -1,5 +1,5 @@
 -- The first of the causes for which objects are not linked.
-use Rattle.std.proofs.Common.{◌≡◌, ◌≤◌, ◌<◌, ℕ, ◌+◌, true, false, refl, sym, ap, subst, inl, inr, ◌⊎◌, arith, List}
+use Rattle.std.proofs.Common.{◌≡◌, ◌≤◌, ◌<◌, ℕ, false, refl, sym, subst, inl, inr, ◌⊎◌, arith, List}
 use Rattle.std.specs.Prelude.{Contains, nat_lt, ◌==◌, ◌&&◌, ◌||◌}
 use Rattle.std.proofs.lemmas.Bool.Decides.{nat_tests}
 use Rattle.elf_model.specs.declared.refusals.Refusal.{Refusal}

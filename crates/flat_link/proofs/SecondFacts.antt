@@ -1,7 +1,6 @@
 -- The search for a second definition, symbol by symbol.
-use Rattle.std.proofs.Common.{◌≡◌, ◌≤◌, ◌<◌, ℕ, zero, suc, ◌+◌, List, [], ◌∷◌, ◌++◌, length, take, get_or, map, refl, sym, ap, ◌∙◌, subst, inl, inr, arith, Option, Some, None}
+use Rattle.std.proofs.Common.{◌≡◌, ◌≤◌, ◌<◌, ℕ, zero, suc, ◌+◌, List, [], ◌∷◌, ◌++◌, length, take, get_or, map, refl, sym, ap, ◌∙◌, subst, inl, inr, arith, Option, Some}
 use Rattle.std.specs.Prelude.{◌⊎◌, Contains, slice_get}
-use Rattle.std.proofs.lemmas.Option.{none-some, same_Some}
 use Rattle.std.proofs.lemmas.List.{map-append}
 use Rattle.std.proofs.lemmas.List.Elements.{Contains-append_left, Contains-append_right, Contains-append_cases}
 use Rattle.elf_model.specs.Objects.{ObjectParts}
@@ -10,7 +9,7 @@ use Rattle.thumb_table.specs.Names.{Defined, all_symbols}
 use Rattle.thumb_table.specs.LinkFaults.{StandsBefore, IsSecond}
 use Rattle.flat_link.specs.declared.known.Known.{Known}
 use Rattle.flat_link.specs.Known.{defined_of, lower, IsFirstSecond}
-use Rattle.flat_link.proofs.ListFacts.{taken, has_at, there_at, order_at}
+use Rattle.flat_link.proofs.ListFacts.{taken, has_at, order_at}
 use Rattle.flat_link.proofs.SymbolFacts.{symbols_rise}
 use Rattle.flat_link.proofs.NameFacts.{second_yes, second_no}
 

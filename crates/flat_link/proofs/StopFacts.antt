@@ -1,11 +1,10 @@
 -- The stops that are collected are those that an image has.
-use Rattle.std.proofs.Common.{◌≡◌, ℕ, zero, suc, ◌+◌, ◌-◌, Bool, true, false, cond, List, [], ◌∷◌, ◌++◌, map, filter, refl, sym, ap, ◌∙◌, subst, inl, inr, arith, Option, Some, None}
-use Rattle.std.specs.Prelude.{Contains, slice_get, ◌==◌, ◌&&◌, ◌↔◌, max, not}
+use Rattle.std.proofs.Common.{◌≡◌, ℕ, zero, suc, ◌+◌, Bool, true, false, cond, List, [], ◌∷◌, ◌++◌, filter, refl, sym, ap, ◌∙◌, subst, inl, inr, arith, Option, Some, None}
+use Rattle.std.specs.Prelude.{Contains, slice_get, ◌==◌, ◌&&◌, max, not}
 use Rattle.std.specs.Option.{option_to_list}
 use Rattle.std.proofs.lemmas.Bool.{and_parts, and_from, cases_Bool, eqb-true, both_ways, not-true}
 use Rattle.std.proofs.lemmas.Option.{none-some, same_Some}
 use Rattle.std.proofs.lemmas.List.Elements.{Contains-append_left, Contains-append_right, Contains-append_cases}
-use Rattle.elf_model.specs.declared.objects.Section.{Section}
 use Rattle.elf_model.specs.declared.objects.Symbol.{Symbol}
 use Rattle.elf_model.specs.declared.objects.Home.{Home}
 use Rattle.elf_model.specs.declared.objects.Home.TheVariants as home
@@ -13,17 +12,17 @@ use Rattle.elf_model.specs.declared.ranges.RangeKind.{RangeKind}
 use Rattle.elf_model.specs.declared.ranges.RangeKind.TheVariants as kind
 use Rattle.elf_model.specs.Objects.{ObjectParts, is_code, is_data, is_alloc, even}
 use Rattle.elf_model.specs.Ranges.{stands_at}
-use Rattle.elf_model.proofs.Elements.{contains_none, contains_map, map_contains, contains_filter, filter_contains, contains_here, contains_at, found, given_by, given_is, given_has}
+use Rattle.elf_model.proofs.Elements.{contains_none, contains_map, map_contains, contains_filter, filter_contains, found, given_by, given_is, given_has}
 use Rattle.code_ranges.specs.Spans.{kind_at}
 use Rattle.code_ranges.proofs.KindFacts.{beginning, kind_here}
 use Rattle.thumb_table.specs.declared.placements.Placement.{Placement}
-use Rattle.thumb_table.specs.Layouts.{Placed, all_placed, code_parts, data_parts, part_of, home_start, start_of, all_chosen}
+use Rattle.thumb_table.specs.Layouts.{Placed, all_placed, code_parts, data_parts, part_of, home_start, start_of}
 use Rattle.thumb_table.specs.Names.{Defined, all_symbols, is_function, is_in_code, address_of}
 use Rattle.thumb_table.specs.Images.{IsDataStart, IsStop}
 use Rattle.thumb_table.specs.Images.IsStop.{at_function, at_data, at_end}
 use Rattle.flat_link.specs.Layout.{AreObjects}
 use Rattle.flat_link.specs.Stops.{function_stops, says_data, begins_data, data_place, data_stops, all_data_stops, end_stops}
-use Rattle.flat_link.proofs.PartFacts.{IsPartOf, part_is, comes_from}
+use Rattle.flat_link.proofs.PartFacts.{part_is, comes_from}
 use Rattle.flat_link.proofs.PartOrder.{the_part}
 
 -- what says that data begins

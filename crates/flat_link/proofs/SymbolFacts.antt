@@ -1,28 +1,26 @@
 -- The symbols of all objects, by their objects and numbers, and in their order.
 use Rattle.std.proofs.Common.{◌≡◌, ◌≤◌, ◌<◌, ℕ, zero, suc, ◌+◌, ◌-◌, ◌^◌, Bool, true, false, cond, List, [], ◌∷◌, ◌++◌, length, get_or, map, refl, sym, ap, ◌∙◌, subst, inl, inr, arith, Option, Some, None}
-use Rattle.std.specs.Prelude.{◌⊎◌, Contains, slice_get, find, nat_le, ◌==◌, ◌&&◌, filter, max}
-use Rattle.std.specs.List.{list_all}
-use Rattle.std.specs.Option.{option_or}
-use Rattle.std.proofs.lemmas.Bool.{and_parts, cases_Bool, leb-true}
+use Rattle.std.specs.Prelude.{Contains, slice_get, ◌==◌, max}
+use Rattle.std.proofs.lemmas.Bool.{and_parts, leb-true}
 use Rattle.std.proofs.lemmas.Option.{none-some, same_Some}
 use Rattle.std.proofs.lemmas.List.Elements.{Contains-append_cases, Contains-append_left, Contains-append_right}
 use Rattle.elf_model.specs.declared.objects.Section.{Section}
 use Rattle.elf_model.specs.declared.objects.Symbol.{Symbol}
 use Rattle.elf_model.specs.declared.objects.Home.{Home}
 use Rattle.elf_model.specs.declared.objects.Home.TheVariants as home
-use Rattle.elf_model.specs.Constants.{func, local}
+use Rattle.elf_model.specs.Constants.{func}
 use Rattle.elf_model.specs.Objects.{ObjectParts, is_object, is_symbol, is_inside, is_at_home, has_home, even}
-use Rattle.elf_model.proofs.Elements.{contains_cases, contains_here, contains_later, contains_none, contains_filter, found, all_at, map_contains}
+use Rattle.elf_model.proofs.Elements.{contains_cases, contains_here, contains_later, contains_none, all_at, map_contains}
 use Rattle.thumb_table.specs.declared.placements.Placement.{Placement}
-use Rattle.thumb_table.specs.Layouts.{Placed, all_placed, code_parts, data_parts, part_of, home_start, start_of}
-use Rattle.thumb_table.specs.Names.{Defined, numbered, all_symbols, globals, weaks, resolved, meant, address_of, is_defined}
+use Rattle.thumb_table.specs.Layouts.{Placed, all_placed, code_parts, part_of, home_start, start_of}
+use Rattle.thumb_table.specs.Names.{Defined, numbered, all_symbols}
 use Rattle.thumb_table.specs.LinkFaults.{StandsBefore}
 use Rattle.flat_link.specs.declared.lots.Lot.{Lot}
 use Rattle.flat_link.specs.Lots.{placed_of}
 use Rattle.flat_link.specs.Layout.{AreObjects, Fits}
 use Rattle.flat_link.proofs.ListFacts.{InOrder, none, before, has_at}
 use Rattle.flat_link.proofs.RawBytes.{ends_inside}
-use Rattle.flat_link.proofs.PartFacts.{IsPartOf, part_is, code_good, data_good}
+use Rattle.flat_link.proofs.PartFacts.{part_is, code_good, data_good}
 
 abbrev pub defined_at : ℕ → ℕ → Symbol → Defined
 defined_at i k s = record { object = i; index = k; symbol = s }

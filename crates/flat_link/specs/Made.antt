@@ -1,5 +1,5 @@
 -- What the linker makes of objects without relocations, part by part.
-use Rattle.std.specs.Prelude.{◌≡◌, ◌↔◌, ℕ, ◌+◌, List, [], map, Contains}
+use Rattle.std.specs.Prelude.{◌≡◌, ◌↔◌, ℕ, ◌+◌, [], map, Contains}
 use Rattle.std.specs.List.Sorted.{IsStrictlyIncreasing}
 use Rattle.mark_word.specs.Words.{bare}
 use Rattle.thumb_table.specs.Parts.{CodeBytes, Image}

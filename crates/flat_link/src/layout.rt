@@ -52,17 +52,17 @@ fn note_lots<'a>(
 }
 
 /// Whether code, data and stack fit their places.
-fn can_fit(code: &[Lot], data: &[Lot], at: &Placement) -> bool
-    requires code { IsTrue (list_all is_sound code.now) }
-    requires sound { IsTrue (list_all is_sound data.now) }
-    requires few_code { length code.now ≤ 16384 }
-    requires few { length data.now ≤ 16384 }
-    ensures { result ≡ lots_fit (map placed_of code.now) (map placed_of data.now) at.now }
+fn can_fit(code_lots: &[Lot], data_lots: &[Lot], at: &Placement) -> bool
+    requires code { IsTrue (list_all is_sound code_lots.now) }
+    requires sound { IsTrue (list_all is_sound data_lots.now) }
+    requires few_code { length code_lots.now ≤ 16384 }
+    requires few { length data_lots.now ≤ 16384 }
+    ensures { result ≡ lots_fit (map placed_of code_lots.now) (map placed_of data_lots.now) at.now }
 {
     let base = at.base as u64;
     let memory = base + at.room as u64;
-    let code_end = end_of(Sort::Code, code, base);
-    let data_end = end_of(Sort::Data, data, memory);
+    let code_end = end_of(Sort::Code, code_lots, base);
+    let data_end = end_of(Sort::Data, data_lots, memory);
     code_end <= memory
         && round_up(data_end - memory, 8) + at.stack as u64 <= 16_777_216
         && data_end <= 0x7FFF_F000
@@ -73,23 +73,23 @@ fn laid<'a>(
     alloc: Global,
     objects: &'a [Object],
     at: &Placement,
-    code: &[Lot<'a>],
-    data: &[Lot<'a>],
+    code_lots: &[Lot<'a>],
+    data_lots: &[Lot<'a>],
 ) -> Result<Layout<'a>, AllocError>
     requires placement { IsPlacement at.now }
     requires few { length objects.now ≤ 16 }
     requires within { All (λ o. IsTrue (is_within o Limit.ANY)) objects.now }
     requires objects { IsTrue (list_all is_object objects.now) }
-    requires code { map placed_of code.now ≡ all_chosen is_code 0 objects.now }
-    requires sound { map placed_of data.now ≡ all_chosen is_data 0 objects.now }
-    requires fits { IsTrue (lots_fit (map placed_of code.now) (map placed_of data.now) at.now) }
+    requires code { map placed_of code_lots.now ≡ all_chosen is_code 0 objects.now }
+    requires sound { map placed_of data_lots.now ≡ all_chosen is_data 0 objects.now }
+    requires fits { IsTrue (lots_fit (map placed_of code_lots.now) (map placed_of data_lots.now) at.now) }
     ensures laid { IfOk result (λ l. IsLayout l) }
     ensures objects { IfOk result (λ l. l.objects.now ≡ objects.now) }
     ensures placement { IfOk result (λ l. l.at ≡ at.now) }
 {
     let base = at.base as u64;
-    let code = placed(alloc, Sort::Code, code, base)?;
-    let data = placed(alloc, Sort::Data, data, base + at.room as u64)?;
+    let code = placed(alloc, Sort::Code, code_lots, base)?;
+    let data = placed(alloc, Sort::Data, data_lots, base + at.room as u64)?;
     let mut table = BTreeMap::new(alloc);
     note_lots(&mut table, &code)?;
     note_lots(&mut table, &data)?;

@@ -1,6 +1,4 @@
-use Rattle.std.proofs.Common.{◌≡◌, ◌++◌, drop, map, filter}
-use Rattle.std.specs.Prelude.{◌&&◌}
-use Rattle.thumb_table.specs.Names.{is_function, is_standing, resolved, address_of}
+use Rattle.std.proofs.Common.{◌≡◌, ◌++◌, drop, map}
 use Rattle.flat_link.specs.Entries.{entries_among}
 use Rattle.flat_link.specs.Known.{defined_of}
 use Rattle.flat_link.specs.Layout.{parts_in}

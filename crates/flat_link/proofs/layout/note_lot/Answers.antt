@@ -1,5 +1,4 @@
 use Rattle.std.proofs.Common.{◌≡◌, ℕ, Bool, cond, Option, Some, None, sym, ap, ◌∙◌}
-use Rattle.std.specs.Prelude.{true, is_none}
 use Rattle.std.specs.BTreeMap.{get}
 use Rattle.code_ranges.specs.Spans.{place_cmp}
 use Rattle.code_ranges.proofs.PlaceOrder.{same_place}

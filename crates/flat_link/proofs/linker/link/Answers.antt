@@ -1,9 +1,9 @@
-use Rattle.std.proofs.Common.{◌≡◌, List, map, sym, ap, ◌∙◌, subst}
+use Rattle.std.proofs.Common.{List, sym, subst}
 use Rattle.elf_model.specs.declared.refusals.Deny.{Deny}
 use Rattle.elf_model.specs.Objects.{ObjectParts}
-use Rattle.thumb_table.specs.Names.{Defined, all_symbols}
-use Rattle.thumb_table.specs.LinkFaults.{IsSecond, IsLinkDenial}
-use Rattle.flat_link.specs.Known.{defined_of, IsLowest, IsFirstSecond}
+use Rattle.thumb_table.specs.Names.{all_symbols}
+use Rattle.thumb_table.specs.LinkFaults.{IsLinkDenial}
+use Rattle.flat_link.specs.Known.{defined_of, IsLowest}
 use Rattle.flat_link.proofs.ImageFacts.{are_plain}
 use Rattle.flat_link.proofs.RefusalFacts.{second_known, second_is}
 use Rattle.flat_link.proofs.linker.link.Goals as goal

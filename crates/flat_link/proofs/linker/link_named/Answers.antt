@@ -1,4 +1,4 @@
-use Rattle.std.proofs.Common.{◌≡◌, List, sym, subst, ap}
+use Rattle.std.proofs.Common.{◌≡◌, List, sym, subst}
 use Rattle.elf_model.specs.Objects.{ObjectParts}
 use Rattle.thumb_table.specs.declared.placements.Placement.{Placement}
 use Rattle.thumb_table.specs.Names.{Defined}

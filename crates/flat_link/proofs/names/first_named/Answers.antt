@@ -1,11 +1,7 @@
-use Rattle.std.proofs.Common.{◌≡◌, ◌+◌, ℕ, List, Bool, true, false, cond, Option, Some, None, map, filter, take, sym, ap, ◌∙◌, arith}
-use Rattle.std.specs.Prelude.{find, option_map}
-use Rattle.std.specs.Option.{option_or}
-use Rattle.elf_model.specs.Fields.{same_name}
-use Rattle.thumb_table.specs.Names.{Defined}
-use Rattle.flat_link.specs.declared.known.Known.{Known}
-use Rattle.flat_link.specs.Known.{defined_of, is_bound, named}
-use Rattle.flat_link.proofs.NameFacts.{find_more, first_more, first_less}
+use Rattle.std.proofs.Common.{sym, ap, ◌∙◌, arith}
+use Rattle.std.specs.Prelude.{option_map}
+use Rattle.flat_link.specs.Known.{defined_of, named}
+use Rattle.flat_link.proofs.NameFacts.{first_more, first_less}
 use Rattle.flat_link.proofs.names.first_named.Goals as goal
 use Rattle.flat_link.proofs.names.first_named.Goals.{then-is_bound+in_ok-note, else-is_bound}
 

@@ -1,4 +1,4 @@
-use Rattle.std.proofs.Common.{◌≡◌, List, filter, ap, ◌∙◌}
+use Rattle.std.proofs.Common.{List, filter, ap, ◌∙◌}
 use Rattle.std.specs.Prelude.{find}
 use Rattle.elf_model.specs.Fields.{same_name}
 use Rattle.thumb_table.specs.Names.{Defined}

@@ -1,10 +1,10 @@
-use Rattle.std.proofs.Common.{◌≡◌, List, ap, sym, ◌∙◌, Option, Some, None}
+use Rattle.std.proofs.Common.{◌≡◌, ap, sym, ◌∙◌, Option, Some, None}
 use Rattle.std.specs.Prelude.{find, option_map}
 use Rattle.std.specs.Option.{option_or}
 use Rattle.std.proofs.lemmas.List.Folds.{find-append}
 use Rattle.elf_model.specs.Fields.{same_name}
 use Rattle.thumb_table.specs.Names.{Defined, globals, weaks}
-use Rattle.flat_link.specs.Known.{defined_of, named}
+use Rattle.flat_link.specs.Known.{defined_of}
 use Rattle.flat_link.proofs.names.resolved.Goals as goal
 
 pub returns-in-Some : goal.returns-in-Some

@@ -1,10 +1,9 @@
-use Rattle.std.proofs.Common.{◌≡◌, Bool, false, List, ℕ, refl, sym, ap, ◌∙◌, subst, Option, Some, None}
-use Rattle.std.specs.Prelude.{◌==◌, ◌&&◌, find, option_map, true}
+use Rattle.std.proofs.Common.{◌≡◌, false, List, ℕ, refl, sym, ap, ◌∙◌, Some, None}
+use Rattle.std.specs.Prelude.{◌==◌, ◌&&◌, find, option_map}
 use Rattle.std.proofs.lemmas.Bool.{both_ways}
 use Rattle.std.proofs.lemmas.Option.{same_Some}
 use Rattle.elf_model.specs.Fields.{same_name}
 use Rattle.thumb_table.specs.Names.{Defined, globals}
-use Rattle.flat_link.specs.declared.known.Known.{Known}
 use Rattle.flat_link.specs.Known.{defined_of}
 use Rattle.flat_link.proofs.NameFacts.{second_from, second_found, first_only}
 use Rattle.flat_link.proofs.seconds.is_second.Goals as goal

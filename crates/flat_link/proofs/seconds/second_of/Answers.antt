@@ -1,7 +1,5 @@
-use Rattle.std.proofs.Common.{◌≡◌, ◌+◌, List, take, map, sym, ap, ◌∙◌, subst, arith, Option, Some}
+use Rattle.std.proofs.Common.{◌+◌, take, map, sym, ap, ◌∙◌, subst, arith, Option, Some}
 use Rattle.std.proofs.lemmas.Bool.{both_ways}
-use Rattle.std.specs.Prelude.{Contains}
-use Rattle.thumb_table.specs.Names.{Defined, all_symbols}
 use Rattle.flat_link.specs.declared.known.Known.{Known}
 use Rattle.flat_link.specs.Known.{defined_of, IsFirstSecond}
 use Rattle.flat_link.proofs.SecondFacts.{known_at, step_yes, step_no, at_end}

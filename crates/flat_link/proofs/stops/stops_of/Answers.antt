@@ -1,5 +1,5 @@
-use Rattle.std.proofs.Common.{◌≡◌, ◌++◌, ℕ, List, map, ap, ◌∙◌, sym, subst}
-use Rattle.std.specs.Prelude.{Contains, ◌↔◌}
+use Rattle.std.proofs.Common.{◌≡◌, ◌++◌, ℕ, List, ap, ◌∙◌, sym, subst}
+use Rattle.std.specs.Prelude.{Contains}
 use Rattle.thumb_table.specs.Layouts.{Placed, code_parts}
 use Rattle.thumb_table.specs.Names.{all_symbols}
 use Rattle.flat_link.specs.Layout.{parts_in}
