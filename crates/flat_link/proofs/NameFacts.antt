@@ -1,22 +1,28 @@
--- Names that are the same.
-use Rattle.std.proofs.Common.{◌≡◌, ℕ, zero, suc, ◌+◌, ◌<◌, ◌≤◌, Bool, true, false, cond, List, [], ◌∷◌, ◌++◌, length, take, drop, get_or, refl, sym, ap, ◌∙◌, subst, inl, inr, arith, append_assoc}
-use Rattle.std.specs.Prelude.{nat_eq, ◌&&◌, ◌||◌}
-use Rattle.std.specs.Prelude.{slice_get, Option, Some, None}
-use Rattle.std.specs.List.{list_any}
-use Rattle.std.proofs.lemmas.List.Folds.{list_any_more}
-use Rattle.std.proofs.lemmas.Option.{same_Some}
-use Rattle.std.proofs.lemmas.List.{append-nil}
-use Rattle.elf_model.specs.declared.objects.Symbol.{Symbol}
-use Rattle.thumb_table.specs.declared.parts.NamedEntry.{NamedEntry}
-use Rattle.thumb_table.specs.LinkFaults.{home_section}
-use Rattle.flat_link.specs.Symbols.{is_named, is_second, is_meant, earlier, IsLowest, IsFirstSecond, entry_at, entry_list, function_place}
-use Rattle.flat_link.proofs.SectionFacts.{next}
-use Rattle.std.proofs.lemmas.Bool.{and_parts, and_from, cases_eq, eq-eqb, ne_eqb, eqb-true, both_ways, cases_lt, lt-ltb, le-ltb}
+-- What names stand for, and which are defined twice.
+use Rattle.std.proofs.Common.{◌≡◌, ◌≤◌, ◌<◌, ℕ, ◌+◌, Bool, true, false, cond, List, [], ◌∷◌, length, take, get_or, map, refl, sym, ap, ◌∙◌, subst, inl, inr, arith, Option, Some, None}
+use Rattle.std.specs.Prelude.{◌⊎◌, Contains, find, filter, nat_eq, nat_lt, ◌==◌, ◌&&◌, not, option_map, is_some}
+use Rattle.std.specs.Option.{option_or, option_copied}
+use Rattle.std.specs.Borrow.{Bor}
+use Rattle.std.proofs.lemmas.Bool.{and_parts, and_from, cases_Bool, cases_eq, cases_lt, eqb-true, eq-eqb, ne_eqb, ltb-true, lt-ltb, both_ways}
+use Rattle.std.proofs.lemmas.Option.{none-some}
+use Rattle.std.proofs.lemmas.List.{map-append}
+use Rattle.std.proofs.lemmas.List.Folds.{find-append}
+use Rattle.std.proofs.lemmas.List.Elements.{filter-append}
 use Rattle.elf_model.specs.Fields.{same_name}
+use Rattle.elf_model.specs.Objects.{ObjectParts}
+use Rattle.elf_model.proofs.Elements.{contains_filter, filter_contains, found, finds}
+use Rattle.thumb_table.specs.Names.{Defined, all_symbols, globals}
+use Rattle.thumb_table.specs.LinkFaults.{StandsBefore, IsSecond, home_section}
+use Rattle.flat_link.specs.declared.known.Known.{Known}
+use Rattle.flat_link.specs.declared.names.Binding.{Binding}
+use Rattle.flat_link.specs.declared.names.Binding.TheVariants.{Global}
+use Rattle.flat_link.specs.Known.{defined_of, is_bound, is_lower, lower, IsNotBehind, IsLowest, IsFirstSecond}
+use Rattle.flat_link.proofs.ListFacts.{taken, found_first, order_filter}
+use Rattle.flat_link.proofs.SymbolFacts.{symbols_rise}
 
-pub as_or : (b c : Bool) → cond b true c ≡ (b || c)
-as_or true c = refl
-as_or false c = refl
+pub or_none : {X : Type 0} (a : Option X) → option_or a None ≡ a
+or_none None = refl
+or_none (Some x) = refl
 
 pub eqb_flip : (m n : ℕ) → nat_eq m n ≡ nat_eq n m
 eqb_flip m n =
@@ -43,121 +49,192 @@ pub same_name_self : (a : List ℕ) → same_name a a ≡ true
 same_name_self [] = refl
 same_name_self (x ∷ xs) = and_from (nat_eq x x) (same_name xs xs) (eq-eqb x x refl) (same_name_self xs)
 
-or_comm : (a b : Bool) → (a || b) ≡ (b || a)
-or_comm true true = refl
-or_comm true false = refl
-or_comm false true = refl
-or_comm false false = refl
+-- Which of two is one of the symbols.
+abbrev is_same : Defined → Defined → Bool
+is_same d e = (d.object == e.object) && (d.index == e.index)
 
-pub or_assoc : (a b c : Bool) → (a || (b || c)) ≡ ((a || b) || c)
-or_assoc true b c = refl
-or_assoc false b c = refl
-
--- one more symbol
-pub named_more : (sort : Symbol → Bool) (n : List ℕ) (xs : List Symbol) (i : ℕ) (s : Symbol) → i < length xs → s ≡ get_or xs i s
-    → ((sort s && same_name n s.name) || is_named sort n (take i xs)) ≡ is_named sort n (take (i + 1) xs)
-named_more sort n xs i s l e =
-    let test : Symbol → Bool = λ s. sort s && same_name n s.name in
-    or_comm (test s) (list_any test (take i xs)) ∙ ap (λ (t : Symbol). list_any test (take i xs) || test t) e ∙ sym (list_any_more test xs i s l)
-
--- an element by its number
-pub there_at : {X : Type 0} (xs : List X) (i : ℕ) (x : X) → i < length xs → x ≡ get_or xs i x → slice_get xs i ≡ Some x
-there_at [] i x l e = absurd (omega arith)
-there_at (y ∷ ys) zero x l e = ap (λ (z : _). Some z) (sym e)
-there_at (y ∷ ys) (suc i) x l e = there_at ys i x (omega arith) e
-
-pub first_same : (symbols : List Symbol) (k : ℕ) (s : Symbol) (first : Option (ℕ × ℕ)) → k < length symbols → s ≡ get_or symbols k s
-    → is_second symbols k s ≡ false → IsFirstSecond symbols k first → IsFirstSecond symbols (k + 1) first
-first_same symbols k s None l e n h = λ i t b at.
-    elim (cases_eq i k) [
-      | inl same ↦
-          let is : s ≡ t = same_Some s t (sym (there_at symbols k s l e) ∙ ap (slice_get symbols) (sym same) ∙ at) in
-          ap (λ (j : ℕ). is_second symbols j t) same ∙ ap (λ (u : Symbol). is_second symbols k u) (sym is) ∙ n
-      | inr d ↦ h i t (omega arith) at
+pub not_itself : (d e : Defined) → StandsBefore d e → ((d.object == e.object) && (d.index == e.index)) ≡ false
+not_itself d e h =
+    elim (cases_Bool (is_same d e)) [
+      | inl y ↦
+          let p = and_parts (d.object == e.object) (d.index == e.index) y in
+          let a : d.object ≡ e.object = eqb-true d.object e.object p.0 in
+          let b : d.index ≡ e.index = eqb-true d.index e.index p.1 in
+          absurd (elim h [ inl l ↦ omega arith | inr q ↦ let l = q.1 in omega arith ])
+      | inr n ↦ n
     ]
-first_same symbols k s (Some p) l e n h = record {
-  symbol = h.symbol;
-  below = (let b = h.below in omega arith);
-  there = h.there;
-  second = h.second;
-  home = h.home;
-  lowest = λ i t b at y.
-      elim (cases_eq i k) [
-        | inl same ↦
-            let is : s ≡ t = same_Some s t (sym (there_at symbols k s l e) ∙ ap (slice_get symbols) (sym same) ∙ at) in
-            absurd (both_ways (is_second symbols i t) (ap (λ (j : ℕ). is_second symbols j t) same ∙ ap (λ (u : Symbol). is_second symbols k u) (sym is) ∙ n) y)
-        | inr d ↦ h.lowest i t (omega arith) at y
-      ];
-}
 
--- the symbol at k comes first
-now_first : (symbols : List Symbol) (k : ℕ) (s : Symbol) → k < length symbols → s ≡ get_or symbols k s → is_second symbols k s ≡ true
-    → ((i : ℕ) (t : Symbol) → i < k → slice_get symbols i ≡ Some t → is_second symbols i t ≡ true → home_section s.home < home_section t.home)
-    → IsLowest symbols (k + 1) (home_section s.home) k
-now_first symbols k s l e y h = record {
-  symbol = s;
-  below = omega arith;
-  there = there_at symbols k s l e;
-  second = y;
-  home = refl;
-  lowest = λ i t b at two.
-      elim (cases_eq i k) [
+module _ (objects : List ObjectParts) where
+  -- the first global definition of a name, and another one
+  pub second_from : (d f : Defined) → Contains (all_symbols 0 objects) d → is_bound Global d.symbol ≡ true → find (λ (e : Defined). same_name e.symbol.name d.symbol.name) (globals objects) ≡ Some f
+      → ((f.object == d.object) && (f.index == d.index)) ≡ false → IsSecond objects d
+  second_from d f c b e other =
+      let there = filter_contains (λ (q : Defined). is_bound Global q.symbol) (all_symbols 0 objects) d c b in
+      let g = found (λ (q : Defined). same_name q.symbol.name d.symbol.name) (globals objects) f e in
+      elim (found_first StandsBefore (λ (q : Defined). same_name q.symbol.name d.symbol.name) (globals objects) f d
+      (order_filter StandsBefore (λ (q : Defined). is_bound Global q.symbol) (all_symbols 0 objects) (symbols_rise 0 objects)) e there (same_name_self d.symbol.name)) [
         | inl same ↦
-            let is : s ≡ t = same_Some s t (sym (there_at symbols k s l e) ∙ ap (slice_get symbols) (sym same) ∙ at) in
-            inr (ap (λ (u : Symbol). home_section u.home) is, omega arith)
-        | inr d ↦ inl (h i t (omega arith) at two)
-      ];
-}
+            let i : f.object ≡ d.object = ap (λ (q : Defined). q.object) same in
+            let k : f.index ≡ d.index = ap (λ (q : Defined). q.index) same in
+            absurd (both_ways ((f.object == d.object) && (f.index == d.index)) other (and_from (f.object == d.object) (f.index == d.index) (eq-eqb f.object d.object i) (eq-eqb f.index d.index k)))
+        | inr before ↦ record { earlier = f; is = there; was = g.0; named = same_name_is f.symbol.name d.symbol.name g.1; before = before }
+      ]
 
-pub first_more : (symbols : List Symbol) (k : ℕ) (s : Symbol) (first : Option (ℕ × ℕ)) → k < length symbols → s ≡ get_or symbols k s
-    → is_second symbols k s ≡ true → IsFirstSecond symbols k first → IsFirstSecond symbols (k + 1) (Some (earlier first (home_section s.home) k))
-first_more symbols k s None l e y h = now_first symbols k s l e y (λ i t b at two. absurd (both_ways (is_second symbols i t) (h i t b at) two))
-first_more symbols k s (Some p) l e y h =
-    elim (cases_lt (home_section s.home) p.0) [
-      | inl low ↦
-          subst (λ (b : Bool). IsFirstSecond symbols (k + 1) (Some (cond b (home_section s.home, k) p))) (sym (lt-ltb (home_section s.home) p.0 low))
-          (now_first symbols k s l e y (λ i t b at two.
-          elim (h.lowest i t b at two) [ inl a ↦ omega arith | inr c ↦ let d = c.0 in omega arith ]))
-      | inr high ↦
-          subst (λ (b : Bool). IsFirstSecond symbols (k + 1) (Some (cond b (home_section s.home, k) p))) (sym (le-ltb (home_section s.home) p.0 high))
-          (kept l e high h)
+  pub second_found : (d : Defined) → IsSecond objects d → (f : Defined) × (find (λ (e : Defined). same_name e.symbol.name d.symbol.name) (globals objects) ≡ Some f)
+      × (((f.object == d.object) && (f.index == d.index)) ≡ false) × (is_bound Global d.symbol ≡ true)
+  second_found d h =
+      let p : Defined → Bool = λ q. same_name q.symbol.name d.symbol.name in
+      let same : p h.earlier ≡ true = subst (λ (n : List ℕ). same_name h.earlier.symbol.name n ≡ true) h.named (same_name_self h.earlier.symbol.name) in
+      let f = finds p (globals objects) h.earlier h.was same in
+      let order = order_filter StandsBefore (λ (q : Defined). is_bound Global q.symbol) (all_symbols 0 objects) (symbols_rise 0 objects) in
+      let b : is_bound Global d.symbol ≡ true = (contains_filter (λ (q : Defined). is_bound Global q.symbol) (all_symbols 0 objects) d h.is).1 in
+      let before : StandsBefore f.0 d = elim (found_first StandsBefore p (globals objects) f.0 h.earlier order f.1 h.was same) [
+        | inl e ↦ subst (λ (q : Defined). StandsBefore q d) (sym e) h.before
+        | inr r ↦ along f.0 h.earlier d r h.before
+      ] in
+      (f.0, f.1, not_itself f.0 d before, b)
+    where
+      along : (a b c : Defined) → StandsBefore a b → StandsBefore b c → StandsBefore a c
+      along a b c (inl x) (inl y) = inl (omega arith)
+      along a b c (inl x) (inr y) = let e = y.0 in inl (omega arith)
+      along a b c (inr x) (inl y) = let e = x.0 in inl (omega arith)
+      along a b c (inr x) (inr y) = let e = x.0 in let f = y.0 in let g = x.1 in let h = y.1 in inr (e ∙ f, omega arith)
+
+  pub first_only : (d : Defined) → find (λ (e : Defined). same_name e.symbol.name d.symbol.name) (globals objects) ≡ None → IsSecond objects d → ⊥
+  first_only d e h = let s = second_found d h in none-some s.0 (sym e ∙ s.1)
+
+-- One more symbol, which stands behind those before.
+module _ (objects : List ObjectParts) (among : List Defined) (k : Known) (later : (d : Defined) → Contains among d → StandsBefore d (defined_of k)) where
+  pub second_no : (first : Option Known) (more : List Defined) → (IsSecond objects (defined_of k) → ⊥) → ((e : Defined) → Contains more e → Contains among e ⊎ (defined_of k ≡ e))
+      → ((e : Defined) → Contains among e → Contains more e) → IsFirstSecond objects among first → IsFirstSecond objects more first
+  second_no None more never split join h = λ e c s. elim (split e c) [ inl a ↦ h e a s | inr q ↦ never (subst (λ (z : Defined). IsSecond objects z) (sym q) s) ]
+  second_no (Some f) more never split join h = record {
+    there = join (defined_of f) h.there;
+    second = h.second;
+    lowest = λ e c s. elim (split e c) [ inl a ↦ h.lowest e a s | inr q ↦ absurd (never (subst (λ (z : Defined). IsSecond objects z) (sym q) s)) ];
+  }
+
+  not_behind : (f e : Defined) → StandsBefore f (defined_of k) → (f.object ≡ k.object → home_section f.symbol.home ≤ home_section k.symbol.now.home) → IsNotBehind f (defined_of k)
+  not_behind f e (inl l) low = inl l
+  not_behind f e (inr q) low =
+      let l = low q.0 in
+      let i = q.1 in
+      elim (cases_lt (home_section f.symbol.home) (home_section k.symbol.now.home)) [ inl a ↦ inr (q.0, inl a) | inr b ↦ inr (q.0, inr (omega arith, omega arith)) ]
+
+  lower_one : (f e : Defined) → IsNotBehind f e → StandsBefore e (defined_of k) → k.object ≡ f.object → home_section k.symbol.now.home < home_section f.symbol.home → IsNotBehind (defined_of k) e
+  lower_one f e (inl a) (inl b) o l = absurd (omega arith)
+  lower_one f e (inl a) (inr b) o l = let p = b.0 in absurd (omega arith)
+  lower_one f e (inr a) (inl b) o l = let p = a.0 in absurd (omega arith)
+  lower_one f e (inr a) (inr b) o l = let p = a.0 in elim (a.1) [ inl x ↦ inr (o ∙ p, inl (omega arith)) | inr x ↦ let y = x.0 in inr (o ∙ p, inl (omega arith)) ]
+
+  itself : IsNotBehind (defined_of k) (defined_of k)
+  itself = inr (refl, inr (refl, omega arith))
+
+  pub second_yes : (first : Option Known) (more : List Defined) → IsSecond objects (defined_of k) → Contains more (defined_of k) → ((e : Defined) → Contains more e → Contains among e ⊎ (defined_of k ≡ e))
+      → ((e : Defined) → Contains among e → Contains more e) → IsFirstSecond objects among first → IsFirstSecond objects more (Some (lower first k))
+  second_yes None more is there split join h = record {
+    there = there;
+    second = is;
+    lowest = λ e c s. elim (split e c) [ inl a ↦ absurd (h e a s) | inr q ↦ subst (λ (z : Defined). IsNotBehind (defined_of k) z) q itself ];
+  }
+  second_yes (Some f) more is there split join h =
+      elim (cases_Bool (is_lower k f)) [
+        | inl y ↦
+            let p = and_parts (k.object == f.object) (nat_lt (home_section k.symbol.now.home) (home_section f.symbol.now.home)) y in
+            let o : k.object ≡ f.object = eqb-true k.object f.object p.0 in
+            let l : home_section k.symbol.now.home < home_section f.symbol.now.home = ltb-true _ _ p.1 in
+            subst (λ (b : Bool). IsLowest objects more (defined_of (cond b k f))) (sym y) (record {
+              there = there;
+              second = is;
+              lowest = λ e c s. elim (split e c) [
+                | inl a ↦ lower_one (defined_of f) e (h.lowest e a s) (later e a) o l
+                | inr q ↦ subst (λ (z : Defined). IsNotBehind (defined_of k) z) q itself
+              ];
+            })
+        | inr n ↦
+            subst (λ (b : Bool). IsLowest objects more (defined_of (cond b k f))) (sym n) (record {
+              there = join (defined_of f) h.there;
+              second = h.second;
+              lowest = λ e c s. elim (split e c) [
+                | inl a ↦ h.lowest e a s
+                | inr q ↦ subst (λ (z : Defined). IsNotBehind (defined_of f) z) q (not_behind (defined_of f) e (later (defined_of f) h.there) (low n))
+              ];
+            })
+      ]
+    where
+      low : is_lower k f ≡ false → f.object ≡ k.object → home_section f.symbol.now.home ≤ home_section k.symbol.now.home
+      low n o =
+          elim (cases_lt (home_section k.symbol.now.home) (home_section f.symbol.now.home)) [
+            | inl l ↦ absurd (both_ways (is_lower k f) n (and_from (k.object == f.object) _ (eq-eqb k.object f.object (sym o)) (lt-ltb _ _ l)))
+            | inr g ↦ g
+          ]
+
+-- a name that had no definition gets this one
+pub note_new : (m n : List ℕ) (old : List ℕ → Option Known) (k : Known) (new : Option Known) → new ≡ cond (same_name m n) (Some k) (old n) → old m ≡ None → new ≡ option_or (old n) (cond (same_name m n) (Some k) None)
+note_new m n old k new e none =
+    elim (cases_Bool (same_name m n)) [
+      | inl y ↦
+          let same : m ≡ n = same_name_is m n y in
+          let empty : old n ≡ None = subst (λ (x : List ℕ). old x ≡ None) same none in
+          e ∙ ap (λ (b : Bool). cond b (Some k) (old n)) y ∙ sym (ap (λ (o : Option Known). option_or o (cond (same_name m n) (Some k) None)) empty ∙ ap (λ (b : Bool). cond b (Some k) None) y)
+      | inr d ↦ e ∙ ap (λ (b : Bool). cond b (Some k) (old n)) d ∙ sym (ap (λ (b : Bool). option_or (old n) (cond b (Some k) None)) d ∙ or_none (old n))
     ]
+
+-- a name that had one keeps it
+pub note_old : (m n : List ℕ) (old : List ℕ → Option Known) (k f : Known) → old m ≡ Some f → old n ≡ option_or (old n) (cond (same_name m n) (Some k) None)
+note_old m n old k f some =
+    elim (cases_Bool (same_name m n)) [
+      | inl y ↦
+          let full : old n ≡ Some f = subst (λ (x : List ℕ). old x ≡ Some f) (same_name_is m n y) some in
+          full ∙ sym (ap (λ (o : Option Known). option_or o (cond (same_name m n) (Some k) None)) full)
+      | inr d ↦ sym (ap (λ (b : Bool). option_or (old n) (cond b (Some k) None)) d ∙ or_none (old n))
+    ]
+
+pub map_or : {X Y : Type 0} (f : X → Y) (a b : Option X) → option_map f (option_or a b) ≡ option_or (option_map f a) (option_map f b)
+map_or f None b = refl
+map_or f (Some x) b = refl
+
+-- one more element that may be found
+pub find_more : {X Y : Type 0} (p q : Y → Bool) (f : X → Y) (xs : List X) (i : ℕ) (x : X) → i < length xs → x ≡ get_or xs i x
+    → find p (filter q (map f (take (i + 1) xs))) ≡ option_or (find p (filter q (map f (take i xs)))) (cond (q (f x)) (cond (p (f x)) (Some (f x)) None) None)
+find_more {X} {Y} p q f xs i x l e =
+    ap (λ (t : List X). find p (filter q (map f t))) (taken xs i x l e)
+    ∙ ap (λ (t : List Y). find p (filter q t)) (map-append f (take i xs) (x ∷ []))
+    ∙ ap (λ (t : List Y). find p t) (filter-append q (map f (take i xs)) (f x ∷ []))
+    ∙ find-append p (filter q (map f (take i xs))) (filter q (f x ∷ []))
+    ∙ ap (λ (o : Option Y). option_or (find p (filter q (map f (take i xs)))) o) (one (q (f x)))
   where
-    kept : k < length symbols → s ≡ get_or symbols k s → p.0 ≤ home_section s.home → IsLowest symbols k p.0 p.1 → IsLowest symbols (k + 1) p.0 p.1
-    kept l e high h = record {
-      symbol = h.symbol;
-      below = (let b = h.below in omega arith);
-      there = h.there;
-      second = h.second;
-      home = h.home;
-      lowest = λ i t b at two.
-          elim (cases_eq i k) [
-            | inl same ↦
-                let is : s ≡ t = same_Some s t (sym (there_at symbols k s l e) ∙ ap (slice_get symbols) (sym same) ∙ at) in
-                let home : home_section s.home ≡ home_section t.home = ap (λ (u : Symbol). home_section u.home) is in
-                elim (cases_lt p.0 (home_section s.home)) [
-                  | inl a ↦ inl (omega arith)
-                  | inr c ↦ inr (omega arith, (let b = h.below in omega arith))
-                ]
-            | inr d ↦ h.lowest i t (omega arith) at two
-          ];
-    }
+    one : (b : Bool) → find p (cond b (f x ∷ []) []) ≡ cond b (cond (p (f x)) (Some (f x)) None) None
+    one true = refl
+    one false = refl
 
--- the walk over entries
-entry_next : (starts : List (Option ℕ)) (symbols : List Symbol) (k : ℕ) (s : Symbol) → k < length symbols → s ≡ get_or symbols k s
-    → entry_list starts symbols k (drop k symbols) ≡ cond (is_meant symbols k s) (entry_at s (function_place starts s)) [] ++ entry_list starts symbols (k + 1) (drop (k + 1) symbols)
-entry_next starts symbols k s l e = ap (entry_list starts symbols k) (next symbols k s l e)
+pub is_none_copied : {X : Type 0} (o : Option (Bor X)) (b : Bool) → is_some o ≡ not b → b ≡ true → option_copied o ≡ None
+is_none_copied None b e h = refl
+is_none_copied (Some x) b e h = let f : true ≡ false = e ∙ ap not h in absurd (cc)
 
-pub entry_kept : (starts : List (Option ℕ)) (symbols : List Symbol) (k : ℕ) (s : Symbol) (done new z made : List NamedEntry) → k < length symbols → s ≡ get_or symbols k s
-    → cond (is_meant symbols k s) (entry_at s (function_place starts s)) [] ≡ made → new ≡ done ++ made
-    → done ++ entry_list starts symbols k (drop k symbols) ≡ z → new ++ entry_list starts symbols (k + 1) (drop (k + 1) symbols) ≡ z
-entry_kept starts symbols k s done new z made l e m n h =
-    let rest : List NamedEntry = entry_list starts symbols (k + 1) (drop (k + 1) symbols) in
-    ap (λ (t : List NamedEntry). t ++ rest) n ∙ append_assoc done made rest
-    ∙ ap (λ (t : List NamedEntry). done ++ (t ++ rest)) (sym m) ∙ ap (λ (t : List NamedEntry). done ++ t) (sym (entry_next starts symbols k s l e)) ∙ h
+-- the first definition of a name among one symbol more
+pub first_more : (b : Binding) (n : List ℕ) (all : List Known) (i : ℕ) (k : Known) (old new : Option Known) → i < length all → k ≡ get_or all i k → is_bound b k.symbol.now ≡ true
+    → new ≡ option_or old (cond (same_name k.symbol.now.name n) (Some k) None) → option_map defined_of old ≡ find (λ (d : Defined). same_name d.symbol.name n) (filter (λ (d : Defined). is_bound b d.symbol) (map defined_of (take i all)))
+    → option_map defined_of new ≡ find (λ (d : Defined). same_name d.symbol.name n) (filter (λ (d : Defined). is_bound b d.symbol) (map defined_of (take (i + 1) all)))
+first_more b n all i k old new l e y h was =
+    let p : Defined → Bool = λ d. same_name d.symbol.name n in
+    let q : Defined → Bool = λ d. is_bound b d.symbol in
+    let rest : Option Defined = find p (filter q (map defined_of (take i all))) in
+    ap (option_map defined_of) h ∙ map_or defined_of old (cond (same_name k.symbol.now.name n) (Some k) None)
+    ∙ ap (λ (o : Option Defined). option_or o (option_map defined_of (cond (same_name k.symbol.now.name n) (Some k) None))) was
+    ∙ ap (λ (o : Option Defined). option_or rest o) (inner (same_name k.symbol.now.name n))
+    ∙ ap (λ (c : Bool). option_or rest (cond c (cond (p (defined_of k)) (Some (defined_of k)) None) None)) (sym y)
+    ∙ sym (find_more p q defined_of all i k l e)
+  where
+    inner : (c : Bool) → option_map defined_of (cond c (Some k) None) ≡ cond c (Some (defined_of k)) None
+    inner true = refl
+    inner false = refl
 
-pub entry_not : (starts : List (Option ℕ)) (symbols : List Symbol) (k : ℕ) (s : Symbol) (done new z : List NamedEntry) → k < length symbols → s ≡ get_or symbols k s
-    → is_meant symbols k s ≡ false → new ≡ done
-    → done ++ entry_list starts symbols k (drop k symbols) ≡ z → new ++ entry_list starts symbols (k + 1) (drop (k + 1) symbols) ≡ z
-entry_not starts symbols k s done new z l e f n h =
-    entry_kept starts symbols k s done new z [] l e (ap (λ (b : Bool). cond b (entry_at s (function_place starts s)) []) f) (n ∙ sym (append-nil done)) h
+pub first_less : (b : Binding) (n : List ℕ) (all : List Known) (i : ℕ) (k : Known) (old : Option Known) → i < length all → k ≡ get_or all i k → is_bound b k.symbol.now ≡ false
+    → option_map defined_of old ≡ find (λ (d : Defined). same_name d.symbol.name n) (filter (λ (d : Defined). is_bound b d.symbol) (map defined_of (take i all)))
+    → option_map defined_of old ≡ find (λ (d : Defined). same_name d.symbol.name n) (filter (λ (d : Defined). is_bound b d.symbol) (map defined_of (take (i + 1) all)))
+first_less b n all i k old l e f was =
+    let p : Defined → Bool = λ d. same_name d.symbol.name n in
+    let q : Defined → Bool = λ d. is_bound b d.symbol in
+    let rest : Option Defined = find p (filter q (map defined_of (take i all))) in
+    was ∙ sym (or_none rest) ∙ ap (λ (c : Bool). option_or rest (cond c (cond (p (defined_of k)) (Some (defined_of k)) None) None)) (sym f) ∙ sym (find_more p q defined_of all i k l e)

@@ -1,250 +1,260 @@
--- Parts and where code sections start.
-use Rattle.std.proofs.Common.{◌≡◌, ◌≤◌, ℕ, zero, suc, ◌+◌, ◌-◌, Bool, true, false, cond, List, [], ◌∷◌, ◌++◌, map, refl, sym, ap, ◌∙◌, subst, inl, inr, arith, Option, Some, None}
-use Rattle.std.specs.Prelude.{Contains, find, slice_get, max, ◌==◌, ◌&&◌, not, unwrap_or}
-use Rattle.std.specs.List.{list_all}
-use Rattle.std.specs.Option.{option_or}
-use Rattle.std.proofs.lemmas.Bool.{and_parts, and_from, cases_Bool, eqb-true, eq-eqb, not-true, both_ways}
-use Rattle.std.proofs.lemmas.List.Folds.{find-append}
-use Rattle.std.proofs.lemmas.List.Elements.{Contains-append_cases}
+-- Parts of a list of objects: where they come from, that they lie apart, and that relocations stay in their own part.
+use Rattle.std.specs.Prelude.{◌≡◌, ◌<◌, ◌⊎◌, ℕ, zero, suc, ◌+◌, ◌==◌, ◌&&◌, ◌||◌, max, Bool, true, cond, List, [], ◌∷◌, Some, slice_get, Contains, refl}
+use Rattle.std.proofs.Common.{arith, inl, inr, ap, sym, ◌∙◌, subst}
+use Rattle.std.proofs.lemmas.Bool.{cases_Bool, and_parts, and_from, or_cases, eq-eqb, eqb-true}
 use Rattle.std.proofs.lemmas.Option.{none-some, same_Some}
+use Rattle.std.proofs.lemmas.List.Elements.{Contains-append_cases, Contains-append_left, Contains-append_right}
 use Rattle.elf_model.specs.declared.objects.Section.{Section}
-use Rattle.elf_model.specs.declared.objects.Home.{Home}
-use Rattle.elf_model.specs.declared.objects.Home.TheVariants as home
-use Rattle.elf_model.specs.Objects.{is_section, is_code, is_alloc}
-use Rattle.elf_model.specs.Canonical.{round_up}
-use Rattle.thumb_table.specs.Layouts.{Placed, part_of, start_of, home_start}
-use Rattle.thumb_table.specs.Names.{is_in_code}
-use Rattle.flat_link.specs.declared.places.Sort.{Sort}
-use Rattle.flat_link.specs.declared.places.Sort.TheVariants.{Code, Data}
-use Rattle.flat_link.specs.Placing.{is_of, alignment_of, parts_from, end_after, end_of, code_starts}
-use Rattle.flat_link.specs.Symbols.{code_start, end_stops}
-use Rattle.elf_model.proofs.Elements.{contains_cases, contains_here, contains_later, contains_none, found, finds}
-use Rattle.flat_link.proofs.Walks.{part_at, parts_yes, parts_no, after_yes, after_no, end_grows}
+use Rattle.elf_model.specs.declared.objects.Reloc.{Reloc}
+use Rattle.elf_model.specs.Objects.{ObjectParts, is_object, is_section, is_reloc, is_code, is_data}
+use Rattle.thumb_table.specs.declared.placements.Placement.{Placement}
+use Rattle.thumb_table.specs.Layouts.{Placed, chosen, all_chosen, placed, code_parts, data_parts, all_placed, part_of}
+use Rattle.flat_link.specs.Layout.{AreObjects}
+use Rattle.elf_model.proofs.Elements.{contains_cases, contains_none}
+use Rattle.elf_model.proofs.Elements.{contains_here, contains_later, found, finds, all_at}
+use Rattle.flat_link.proofs.SectionFacts.{aligned, sized}
+use Rattle.flat_link.proofs.RawBytes.{AllGood, begun}
 
--- a part is of its section
-pub record IsPartOf (sort : Sort) (j : ℕ) (sections : List Section) (p : Placed) : Type 0 where
-  pub object : p.object ≡ 0
-  pub above : j ≤ p.index
-  pub there : slice_get sections (p.index - j) ≡ Some p.section
-  pub sorted : is_of sort p.section ≡ true
+pub section_sound : (o : ObjectParts) (j : ℕ) (s : Section) → is_object o ≡ true → slice_get o.sections j ≡ Some s → is_section s ≡ true
+section_sound o j s h at =
+    let a = and_parts _ _ h in
+    let b = and_parts _ _ a.0 in
+    let c = and_parts _ _ b.0 in
+    let d = and_parts _ _ c.0 in
+    let e = and_parts _ _ d.0 in
+    all_at is_section o.sections j s e.0 at
 
-later_part : (sort : Sort) (j : ℕ) (s : Section) (rest : List Section) (p : Placed) → IsPartOf sort (j + 1) rest p → IsPartOf sort j (s ∷ rest) p
-later_part sort j s rest p h =
-    let a = h.above in
-    let n : p.index - j ≡ suc (p.index - (j + 1)) = omega arith in
-    record { object = h.object; above = omega arith; there = ap (slice_get (s ∷ rest)) n ∙ h.there; sorted = h.sorted }
+pub reloc_sound : (o : ObjectParts) (k : ℕ) (r : Reloc) → is_object o ≡ true → slice_get o.relocs k ≡ Some r → is_reloc o.sections o.symbols r ≡ true
+reloc_sound o k r sound at =
+    let a = and_parts _ _ sound in
+    let b = and_parts _ _ a.0 in
+    all_at (is_reloc o.sections o.symbols) o.relocs k r (and_parts _ _ b.0).1 at
 
-pub part_is : (sort : Sort) (from j k : ℕ) (sections : List Section) (p : Placed) → Contains (parts_from sort from j k sections) p → IsPartOf sort j sections p
-part_is sort from j k [] p h = absurd (contains_none p h)
-part_is sort from j k (s ∷ rest) p h =
-    let start = round_up from (alignment_of sort s) in
-    elim (cases_Bool (is_of sort s)) [
+-- where a chosen part comes from
+pub record IsChosen (sort : Section → Bool) (i j : ℕ) (sections : List Section) (q : Placed) : Type 0 where
+  pub number : ℕ
+  pub is_sort : sort q.section ≡ true
+  pub object : q.object ≡ i
+  pub index : q.index ≡ j + number
+  pub there : slice_get sections number ≡ Some q.section
+
+later_chosen : (sort : Section → Bool) (i j : ℕ) (s : Section) (rest : List Section) (q : Placed) → IsChosen sort i (j + 1) rest q → IsChosen sort i j (s ∷ rest) q
+later_chosen sort i j s rest q h =
+    let n = h.index in
+    record { number = suc h.number; is_sort = h.is_sort; object = h.object; index = omega arith; there = h.there }
+
+pub chosen_is : (sort : Section → Bool) (i j k : ℕ) (sections : List Section) (q : Placed) → Contains (chosen sort i j k sections) q → IsChosen sort i j sections q
+chosen_is sort i j k [] q c = absurd (contains_none q c)
+chosen_is sort i j k (s ∷ rest) q c =
+    let first : Placed = record { object = i; index = j; ordinal = k; start = 0; section = s } in
+    let more : List Placed = chosen sort i (j + 1) (k + 1) rest in
+    elim (cases_Bool (sort s)) [
       | inl y ↦
-          elim (contains_cases (part_at sort from j k s) (parts_from sort (start + s.size) (j + 1) (k + 1) rest) p (subst (λ (l : List Placed). Contains l p) (parts_yes sort from j k s rest y) h)) [
+          elim (contains_cases first more q (subst (λ (l : List Placed). Contains l q) (ap (λ (b : Bool). cond b (first ∷ more) (chosen sort i (j + 1) k rest)) y) c)) [
             | inl e ↦
-                let zero_at : j - j ≡ 0 = omega arith in
-                subst (λ (q : Placed). IsPartOf sort j (s ∷ rest) q) e (record { object = refl; above = omega arith; there = ap (slice_get (s ∷ rest)) zero_at; sorted = y })
-            | inr r ↦ later_part sort j s rest p (part_is sort (start + s.size) (j + 1) (k + 1) rest p r)
+                let index : j ≡ j + 0 = omega arith in
+                subst (λ (z : Placed). IsChosen sort i j (s ∷ rest) z) e (record { number = 0; is_sort = y; object = refl; index = index; there = refl })
+            | inr r ↦ later_chosen sort i j s rest q (chosen_is sort i (j + 1) (k + 1) rest q r)
           ]
-      | inr n ↦ later_part sort j s rest p (part_is sort from (j + 1) k rest p (subst (λ (l : List Placed). Contains l p) (parts_no sort from j k s rest n) h))
+      | inr n ↦ later_chosen sort i j s rest q (chosen_is sort i (j + 1) k rest q (subst (λ (l : List Placed). Contains l q) (ap (λ (b : Bool). cond b (first ∷ more) (chosen sort i (j + 1) k rest)) n) c))
     ]
 
--- starts of code
-starts_yes : (from : ℕ) (s : Section) (rest : List Section) → is_code s ≡ true
-    → code_starts from (s ∷ rest) ≡ Some (round_up from (max 4 s.align)) ∷ code_starts (round_up from (max 4 s.align) + s.size) rest
-starts_yes from s rest y =
-    ap (λ (b : Bool). (cond b (Some (round_up from (max 4 s.align))) None) ∷ code_starts (cond b (round_up from (max 4 s.align) + s.size) from) rest) y
+pub record ComesFrom (sort : Section → Bool) (i : ℕ) (objects : List ObjectParts) (q : Placed) : Type 0 where
+  pub number : ℕ
+  pub object : ObjectParts
+  pub is_sort : sort q.section ≡ true
+  pub file : q.object ≡ i + number
+  pub there : slice_get objects number ≡ Some object
+  pub section : slice_get object.sections q.index ≡ Some q.section
 
-starts_no : (from : ℕ) (s : Section) (rest : List Section) → is_code s ≡ false → code_starts from (s ∷ rest) ≡ None ∷ code_starts from rest
-starts_no from s rest n =
-    ap (λ (b : Bool). (cond b (Some (round_up from (max 4 s.align))) None) ∷ code_starts (cond b (round_up from (max 4 s.align) + s.size) from) rest) n
-
--- a part of code starts where the table says
-pub start_is : (from j k : ℕ) (sections : List Section) (p : Placed) → Contains (parts_from Code from j k sections) p
-    → (j ≤ p.index) × (slice_get (code_starts from sections) (p.index - j) ≡ Some (Some p.start))
-start_is from j k [] p h = absurd (contains_none p h)
-start_is from j k (s ∷ rest) p h =
-    let start = round_up from (max 4 s.align) in
-    elim (cases_Bool (is_code s)) [
-      | inl y ↦
-          elim (contains_cases (part_at Code from j k s) (parts_from Code (start + s.size) (j + 1) (k + 1) rest) p (subst (λ (l : List Placed). Contains l p) (parts_yes Code from j k s rest y) h)) [
-            | inl e ↦
-                let zero_at : j - j ≡ 0 = omega arith in
-                subst (λ (q : Placed). (j ≤ q.index) × (slice_get (code_starts from (s ∷ rest)) (q.index - j) ≡ Some (Some q.start))) e
-                (omega arith, ap (slice_get (code_starts from (s ∷ rest))) zero_at ∙ ap (λ (l : List (Option ℕ)). slice_get l 0) (starts_yes from s rest y))
-            | inr r ↦
-                let q = start_is (start + s.size) (j + 1) (k + 1) rest p r in
-                let a = q.0 in
-                let n : p.index - j ≡ suc (p.index - (j + 1)) = omega arith in
-                (omega arith, ap (slice_get (code_starts from (s ∷ rest))) n ∙ ap (λ (l : List (Option ℕ)). slice_get l (suc (p.index - (j + 1)))) (starts_yes from s rest y) ∙ q.1)
-          ]
-      | inr n ↦
-          let q = start_is from (j + 1) k rest p (subst (λ (l : List Placed). Contains l p) (parts_no Code from j k s rest n) h) in
-          let a = q.0 in
-          let m : p.index - j ≡ suc (p.index - (j + 1)) = omega arith in
-          (omega arith, ap (slice_get (code_starts from (s ∷ rest))) m ∙ ap (λ (l : List (Option ℕ)). slice_get l (suc (p.index - (j + 1)))) (starts_no from s rest n) ∙ q.1)
-    ]
-
--- where the table has a start, a part of code starts, which ends within the whole
-pub record StartsAt (parts : List Placed) (index start last : ℕ) : Type 0 where
-  pub part : Placed
-  pub there : Contains parts part
-  pub object : part.object ≡ 0
-  pub number : part.index ≡ index
-  pub at : part.start ≡ start
-  pub ends : part.start + part.section.size ≤ last
-
-first_start : (from j k : ℕ) (s : Section) (rest : List Section) (a : ℕ) → list_all is_section rest ≡ true → is_code s ≡ true → slice_get (code_starts from (s ∷ rest)) 0 ≡ Some (Some a)
-    → StartsAt (parts_from Code from j k (s ∷ rest)) (j + 0) a (end_of Code from (s ∷ rest))
-first_start from j k s rest a ok y e =
-    let first = sym (ap (λ (l : List (Option ℕ)). slice_get l 0) (starts_yes from s rest y)) ∙ e in
-    let same : round_up from (max 4 s.align) ≡ a = same_Some _ _ (same_Some _ _ first) in
-    let z = after_yes Code from s y in
-    let g = end_grows Code (end_after Code from s) rest ok in
-    record {
-      part = part_at Code from j k s;
-      there = subst (λ (l : List Placed). Contains l (part_at Code from j k s)) (sym (parts_yes Code from j k s rest y)) (contains_here (part_at Code from j k s) (parts_from Code (round_up from (max 4 s.align) + s.size) (j + 1) (k + 1) rest));
-      object = refl;
-      number = omega arith;
-      at = same;
-      ends = omega (arith, z, g);
-    }
-
-later_yes : (from j k : ℕ) (s : Section) (rest : List Section) (i a : ℕ) → is_code s ≡ true
-    → StartsAt (parts_from Code (round_up from (max 4 s.align) + s.size) (j + 1) (k + 1) rest) ((j + 1) + i) a (end_of Code (round_up from (max 4 s.align) + s.size) rest)
-    → StartsAt (parts_from Code from j k (s ∷ rest)) (j + suc i) a (end_of Code from (s ∷ rest))
-later_yes from j k s rest i a y r =
-    let n = r.number in
-    record {
-      part = r.part;
-      there = subst (λ (l : List Placed). Contains l r.part) (sym (parts_yes Code from j k s rest y)) (contains_later (part_at Code from j k s) (parts_from Code (round_up from (max 4 s.align) + s.size) (j + 1) (k + 1) rest) r.part r.there);
-      object = r.object;
-      number = omega arith;
-      at = r.at;
-      ends = subst (λ (t : ℕ). r.part.start + r.part.section.size ≤ end_of Code t rest) (sym (after_yes Code from s y)) r.ends;
-    }
-
-later_no : (from j k : ℕ) (s : Section) (rest : List Section) (i a : ℕ) → is_code s ≡ false
-    → StartsAt (parts_from Code from (j + 1) k rest) ((j + 1) + i) a (end_of Code from rest)
-    → StartsAt (parts_from Code from j k (s ∷ rest)) (j + suc i) a (end_of Code from (s ∷ rest))
-later_no from j k s rest i a n r =
-    let m = r.number in
-    record {
-      part = r.part;
-      there = subst (λ (l : List Placed). Contains l r.part) (sym (parts_no Code from j k s rest n)) r.there;
-      object = r.object;
-      number = omega arith;
-      at = r.at;
-      ends = subst (λ (t : ℕ). r.part.start + r.part.section.size ≤ end_of Code t rest) (sym (after_no Code from s n)) r.ends;
-    }
-
-pub starts_at : (from j k : ℕ) (sections : List Section) (i a : ℕ) → list_all is_section sections ≡ true → slice_get (code_starts from sections) i ≡ Some (Some a)
-    → StartsAt (parts_from Code from j k sections) (j + i) a (end_of Code from sections)
-starts_at from j k [] i a h e = absurd (none-some (Some a) e)
-starts_at from j k (s ∷ rest) zero a h e =
-    let ok = (and_parts (is_section s) (list_all is_section rest) h).1 in
-    elim (cases_Bool (is_code s)) [
-      | inl y ↦ first_start from j k s rest a ok y e
-      | inr n ↦ absurd (none-some a (same_Some _ _ (sym (ap (λ (l : List (Option ℕ)). slice_get l 0) (starts_no from s rest n)) ∙ e)))
-    ]
-starts_at from j k (s ∷ rest) (suc i) a h e =
-    let ok = (and_parts (is_section s) (list_all is_section rest) h).1 in
-    elim (cases_Bool (is_code s)) [
-      | inl y ↦
-          later_yes from j k s rest i a y (starts_at (round_up from (max 4 s.align) + s.size) (j + 1) (k + 1) rest i a ok
-          (sym (ap (λ (l : List (Option ℕ)). slice_get l (suc i)) (starts_yes from s rest y)) ∙ e))
-      | inr n ↦
-          later_no from j k s rest i a n (starts_at from (j + 1) k rest i a ok (sym (ap (λ (l : List (Option ℕ)). slice_get l (suc i)) (starts_no from s rest n)) ∙ e))
-    ]
-
--- all parts of one object
-abbrev pub both : ℕ → ℕ → List Section → List Placed
-both base memory sections = parts_from Code base 0 0 sections ++ parts_from Data memory 0 0 sections
-
--- a part of code is among those of code
-pub code_part : (base memory : ℕ) (sections : List Section) (p : Placed) → Contains (both base memory sections) p → is_code p.section ≡ true → Contains (parts_from Code base 0 0 sections) p
-code_part base memory sections p h y =
-    elim (Contains-append_cases (parts_from Code base 0 0 sections) (parts_from Data memory 0 0 sections) p h) [
-      | inl a ↦ a
+pub all_chosen_is : (sort : Section → Bool) (i : ℕ) (objects : List ObjectParts) (q : Placed) → Contains (all_chosen sort i objects) q → ComesFrom sort i objects q
+all_chosen_is sort i [] q c = absurd (contains_none q c)
+all_chosen_is sort i (o ∷ rest) q c =
+    elim (Contains-append_cases (chosen sort i 0 0 o.sections) (all_chosen sort (i + 1) rest) q c) [
+      | inl a ↦
+          let h = chosen_is sort i 0 0 o.sections q a in
+          let file : q.object ≡ i + 0 = let e = h.object in omega arith in
+          let index : h.number ≡ q.index = let e = h.index in omega arith in
+          record { number = 0; object = o; is_sort = h.is_sort; file = file; there = refl; section = ap (λ (n : ℕ). slice_get o.sections n) (sym index) ∙ h.there }
       | inr b ↦
-          let q = part_is Data memory 0 0 sections p b in
-          let d = and_parts (is_alloc p.section.flags) (not (is_code p.section)) q.sorted in
-          absurd (both_ways (is_code p.section) (not-true (is_code p.section) d.1) y)
+          let h = all_chosen_is sort (i + 1) rest q b in
+          let file : q.object ≡ i + suc h.number = let e = h.file in omega arith in
+          record { number = suc h.number; object = h.object; is_sort = h.is_sort; file = file; there = h.there; section = h.section }
     ]
 
--- the part of a code section, by its number
-pub found_part : (base memory : ℕ) (sections : List Section) (j a : ℕ) → list_all is_section sections ≡ true → slice_get (code_starts base sections) j ≡ Some (Some a)
-    → (p : Placed) × (part_of (both base memory sections) 0 j ≡ Some p) × (p.start ≡ a) × (is_code p.section ≡ true)
-found_part base memory sections j a h e =
-    let r = starts_at base 0 0 sections j a h e in
-    let test : Placed → Bool = λ p. (p.object == 0) && (p.index == j) in
-    let n = r.number in
-    let passes : test r.part ≡ true = and_from (r.part.object == 0) (r.part.index == j) (eq-eqb r.part.object 0 r.object) (eq-eqb r.part.index j (omega arith)) in
-    let f = finds test (parts_from Code base 0 0 sections) r.part r.there passes in
-    let q = found test (parts_from Code base 0 0 sections) f.0 f.1 in
-    let i : f.0.index ≡ j = eqb-true f.0.index j (and_parts (f.0.object == 0) (f.0.index == j) q.1).1 in
-    let s = start_is base 0 0 sections f.0 q.0 in
-    let same : f.0.index - 0 ≡ j = omega arith in
-    let st : f.0.start ≡ a = same_Some _ _ (same_Some _ _ (sym s.1 ∙ ap (slice_get (code_starts base sections)) same ∙ e)) in (
-      f.0,
-      find-append test (parts_from Code base 0 0 sections) (parts_from Data memory 0 0 sections) ∙ ap (λ (o : Option Placed). option_or o (find test (parts_from Data memory 0 0 sections))) f.1,
-      st,
-      (part_is Code base 0 0 sections f.0 q.0).sorted,
-    )
+-- a placed part is a chosen one with a start
+pub unplaced : (alignment : Section → ℕ) (from : ℕ) (ps : List Placed) (p : Placed) → Contains (placed alignment from ps) p
+    → (q : Placed) × Contains ps q × (q.section ≡ p.section) × (q.object ≡ p.object) × (q.index ≡ p.index)
+unplaced alignment from [] p c = absurd (contains_none p c)
+unplaced alignment from (q ∷ ps) p c =
+    elim (contains_cases (begun alignment from q) (placed alignment ((begun alignment from q).start + q.section.size) ps) p c) [
+      | inl e ↦ (q, contains_here q ps, ap (λ (z : Placed). z.section) e, ap (λ (z : Placed). z.object) e, ap (λ (z : Placed). z.index) e)
+      | inr r ↦ let h = unplaced alignment ((begun alignment from q).start + q.section.size) ps p r in (h.0, contains_later q ps h.0 h.1, h.2, h.3, h.4)
+    ]
 
--- what the table says of a symbol's home is what the parts say
-pub in_code : (base memory : ℕ) (sections : List Section) (h : Home) (a : ℕ) → list_all is_section sections ≡ true → code_start (code_starts base sections) h ≡ Some a
-    → (is_in_code (both base memory sections) 0 h ≡ true) × (home_start (both base memory sections) 0 h ≡ a)
-in_code base memory sections home.Undefined a ok e = absurd (none-some a e)
-in_code base memory sections home.Absolute a ok e = absurd (none-some a e)
-in_code base memory sections (home.Section j) a ok e =
-    let s : slice_get (code_starts base sections) j ≡ Some (Some a) = there (slice_get (code_starts base sections) j) e in
-    let f = found_part base memory sections j a ok s in
-    (ap (λ (o : Option Placed). code_of o) f.1 ∙ f.3, ap (λ (o : Option Placed). start_of o) f.1 ∙ f.2)
-  where
-    there : (o : Option (Option ℕ)) → unwrap_or o None ≡ Some a → o ≡ Some (Some a)
-    there None e = absurd (none-some a e)
-    there (Some x) e = ap (λ (y : Option ℕ). Some y) e
+pub comes_from : (sort : Section → Bool) (alignment : Section → ℕ) (from : ℕ) (objects : List ObjectParts) (p : Placed) → Contains (placed alignment from (all_chosen sort 0 objects)) p → ComesFrom sort 0 objects p
+comes_from sort alignment from objects p c =
+    let u = unplaced alignment from (all_chosen sort 0 objects) p c in
+    let h = all_chosen_is sort 0 objects u.0 u.1 in
+    let file : p.object ≡ 0 + h.number = let e = h.file in let f = u.3 in omega arith in
+    record {
+      number = h.number;
+      object = h.object;
+      is_sort = subst (λ (s : Section). sort s ≡ true) u.2 h.is_sort;
+      file = file;
+      there = h.there;
+      section = ap (λ (n : ℕ). slice_get h.object.sections n) (sym u.4) ∙ (h.section ∙ ap (λ (s : Section). Some s) u.2);
+    }
 
-    code_of : Option Placed → Bool
-    code_of None = false
-    code_of (Some p) = is_code p.section
+-- all sections that are placed have their bytes and an alignment
+all_good : (sort : Section → Bool) (alignment : Section → ℕ) (objects : List ObjectParts) → AreObjects objects → ((s : Section) → is_section s ≡ true → 0 < alignment s) → AllGood alignment (all_chosen sort 0 objects)
+all_good sort alignment objects sound positive p c =
+    let h = all_chosen_is sort 0 objects p c in
+    let s = section_sound h.object p.index p.section (all_at is_object objects h.number h.object sound h.there) h.section in
+    record { positive = positive p.section s; sized = sized p.section s }
 
-pub not_in_code : (base memory : ℕ) (sections : List Section) (h : Home) → code_start (code_starts base sections) h ≡ None → is_in_code (both base memory sections) 0 h ≡ false
-not_in_code base memory sections home.Undefined e = refl
-not_in_code base memory sections home.Absolute e = refl
-not_in_code base memory sections (home.Section j) e = go (part_of (both base memory sections) 0 j) refl
-  where
-    code_of : Option Placed → Bool
-    code_of None = false
-    code_of (Some p) = is_code p.section
+code_positive : (s : Section) → is_section s ≡ true → 0 < max 4 s.align
+code_positive s h = let a = (aligned s h).0 in omega arith
 
-    go : (o : Option Placed) → part_of (both base memory sections) 0 j ≡ o → code_of (part_of (both base memory sections) 0 j) ≡ false
-    go None f = ap (λ (o : Option Placed). code_of o) f
-    go (Some p) f =
-        let q = found (λ p. (p.object == 0) && (p.index == j)) (both base memory sections) p f in
-        elim (cases_Bool (is_code p.section)) [
-          | inl y ↦
-              let c = code_part base memory sections p q.0 y in
-              let s = start_is base 0 0 sections p c in
-              let i : p.index ≡ j = eqb-true p.index j (and_parts (p.object == 0) (p.index == j) q.1).1 in
-              let same : p.index - 0 ≡ j = omega arith in
-              absurd (none-some p.start (sym e ∙ ap (λ (o : Option (Option ℕ)). unwrap_or o None) (sym (ap (slice_get (code_starts base sections)) same) ∙ s.1)))
-          | inr n ↦ ap (λ (o : Option Placed). code_of o) f ∙ n
-        ]
+pub code_good : (objects : List ObjectParts) → AreObjects objects → AllGood (λ s. max 4 s.align) (all_chosen is_code 0 objects)
+code_good objects sound = all_good is_code (λ s. max 4 s.align) objects sound code_positive
 
--- ends of code sections are those of the parts of code
-pub ends_are : (from j k : ℕ) (sections : List Section) → end_stops from sections ≡ map (λ p. p.start + p.section.size) (parts_from Code from j k sections)
-ends_are from j k [] = refl
-ends_are from j k (s ∷ rest) =
-    let start = round_up from (max 4 s.align) in
-    elim (cases_Bool (is_code s)) [
+pub data_good : (objects : List ObjectParts) → AreObjects objects → AllGood (λ s. s.align) (all_chosen is_data 0 objects)
+data_good objects sound = all_good is_data (λ s. s.align) objects sound (λ s h. (aligned s h).0)
+
+-- the part of a section
+pub record Here (objects : List ObjectParts) (at : Placement) (i : ℕ) (o : ObjectParts) (j : ℕ) (p : Placed) : Type 0 where
+  pub object : slice_get objects i ≡ Some o
+  pub section : slice_get o.sections j ≡ Some p.section
+  pub part : part_of (all_placed objects at) i j ≡ Some p
+
+pub record IsPartOf (objects : List ObjectParts) (at : Placement) (i j : ℕ) (p : Placed) : Type 0 where
+  pub object : ObjectParts
+  pub there : slice_get objects i ≡ Some object
+  pub section : slice_get object.sections j ≡ Some p.section
+  pub file : p.object ≡ i
+  pub index : p.index ≡ j
+  pub sort : (Contains (code_parts objects at) p × (is_code p.section ≡ true)) ⊎ (Contains (data_parts objects at) p × (is_data p.section ≡ true))
+
+pub part_is : (objects : List ObjectParts) (at : Placement) (i j : ℕ) (p : Placed) → part_of (all_placed objects at) i j ≡ Some p → IsPartOf objects at i j p
+part_is objects at i j p e =
+    let f = found (λ (q : Placed). (q.object == i) && (q.index == j)) (all_placed objects at) p e in
+    let both = and_parts (p.object == i) (p.index == j) f.1 in
+    let file : p.object ≡ i = eqb-true p.object i both.0 in
+    let index : p.index ≡ j = eqb-true p.index j both.1 in
+    elim (Contains-append_cases (code_parts objects at) (data_parts objects at) p f.0) [
+      | inl c ↦
+          let h = comes_from is_code (λ s. max 4 s.align) at.base objects p c in
+          let n : h.number ≡ i = let g = h.file in omega arith in
+          record {
+            object = h.object;
+            there = ap (λ (m : ℕ). slice_get objects m) (sym n) ∙ h.there;
+            section = ap (λ (m : ℕ). slice_get h.object.sections m) (sym index) ∙ h.section;
+            file = file;
+            index = index;
+            sort = inl (c, h.is_sort);
+          }
+      | inr d ↦
+          let h = comes_from is_data (λ s. s.align) (at.base + at.room) objects p d in
+          let n : h.number ≡ i = let g = h.file in omega arith in
+          record {
+            object = h.object;
+            there = ap (λ (m : ℕ). slice_get objects m) (sym n) ∙ h.there;
+            section = ap (λ (m : ℕ). slice_get h.object.sections m) (sym index) ∙ h.section;
+            file = file;
+            index = index;
+            sort = inr (d, h.is_sort);
+          }
+    ]
+
+-- a part of that object and section is among these
+record Among (ps : List Placed) (i j : ℕ) : Type 0 where
+  pub part : Placed
+  pub there : Contains ps part
+  pub file : part.object ≡ i
+  pub index : part.index ≡ j
+
+chosen_has : (sort : Section → Bool) (i j k : ℕ) (sections : List Section) (m : ℕ) (s : Section) → slice_get sections m ≡ Some s → sort s ≡ true → Among (chosen sort i j k sections) i (j + m)
+chosen_has sort i j k [] m s e y = absurd (none-some s e)
+chosen_has sort i j k (t ∷ rest) zero s e y =
+    let first : Placed = record { object = i; index = j; ordinal = k; start = 0; section = t } in
+    let more : List Placed = chosen sort i (j + 1) (k + 1) rest in
+    let is_sort : sort t ≡ true = subst (λ (z : Section). sort z ≡ true) (sym (same_Some t s e)) y in
+    let index : j ≡ j + 0 = omega arith in
+    record {
+      part = first;
+      there = subst (λ (l : List Placed). Contains l first) (sym (ap (λ (b : Bool). cond b (first ∷ more) (chosen sort i (j + 1) k rest)) is_sort)) (contains_here first more);
+      file = refl;
+      index = index;
+    }
+chosen_has sort i j k (t ∷ rest) (suc m) s e y =
+    let first : Placed = record { object = i; index = j; ordinal = k; start = 0; section = t } in
+    let more : List Placed = chosen sort i (j + 1) (k + 1) rest in
+    elim (cases_Bool (sort t)) [
+      | inl a ↦
+          let h = chosen_has sort i (j + 1) (k + 1) rest m s e y in
+          let index : h.part.index ≡ j + suc m = let n = h.index in omega arith in
+          record {
+            part = h.part;
+            there = subst (λ (l : List Placed). Contains l h.part) (sym (ap (λ (b : Bool). cond b (first ∷ more) (chosen sort i (j + 1) k rest)) a)) (contains_later first more h.part h.there);
+            file = h.file;
+            index = index;
+          }
+      | inr f ↦
+          let h = chosen_has sort i (j + 1) k rest m s e y in
+          let index : h.part.index ≡ j + suc m = let n = h.index in omega arith in
+          record {
+            part = h.part;
+            there = subst (λ (l : List Placed). Contains l h.part) (sym (ap (λ (b : Bool). cond b (first ∷ more) (chosen sort i (j + 1) k rest)) f)) h.there;
+            file = h.file;
+            index = index;
+          }
+    ]
+
+all_chosen_has : (sort : Section → Bool) (i : ℕ) (objects : List ObjectParts) (n j : ℕ) (o : ObjectParts) (s : Section) → slice_get objects n ≡ Some o → slice_get o.sections j ≡ Some s → sort s ≡ true
+    → Among (all_chosen sort i objects) (i + n) j
+all_chosen_has sort i [] n j o s e f y = absurd (none-some o e)
+all_chosen_has sort i (q ∷ rest) zero j o s e f y =
+    let h = chosen_has sort i 0 0 q.sections j s (subst (λ (z : ObjectParts). slice_get z.sections j ≡ Some s) (sym (same_Some q o e)) f) y in
+    let file : h.part.object ≡ i + 0 = let a = h.file in omega arith in
+    let index : h.part.index ≡ j = let a = h.index in omega arith in
+    record { part = h.part; there = Contains-append_left (chosen sort i 0 0 q.sections) (all_chosen sort (i + 1) rest) h.part h.there; file = file; index = index }
+all_chosen_has sort i (q ∷ rest) (suc n) j o s e f y =
+    let h = all_chosen_has sort (i + 1) rest n j o s e f y in
+    let file : h.part.object ≡ i + suc n = let a = h.file in omega arith in
+    record { part = h.part; there = Contains-append_right (chosen sort i 0 0 q.sections) (all_chosen sort (i + 1) rest) h.part h.there; file = file; index = h.index }
+
+placed_has : (alignment : Section → ℕ) (from : ℕ) (ps : List Placed) (i j : ℕ) (q : Placed) → Contains ps q → q.object ≡ i → q.index ≡ j → Among (placed alignment from ps) i j
+placed_has alignment from [] i j q c e f = absurd (contains_none q c)
+placed_has alignment from (p ∷ ps) i j q c e f =
+    let first : Placed = begun alignment from p in
+    let more : List Placed = placed alignment (first.start + p.section.size) ps in
+    elim (contains_cases p ps q c) [
+      | inl same ↦ record { part = first; there = contains_here first more; file = ap (λ (z : Placed). z.object) same ∙ e; index = ap (λ (z : Placed). z.index) same ∙ f }
+      | inr r ↦
+          let h = placed_has alignment (first.start + p.section.size) ps i j q r e f in
+          record { part = h.part; there = contains_later first more h.part h.there; file = h.file; index = h.index }
+    ]
+
+pub has_part : (objects : List ObjectParts) (at : Placement) (i j : ℕ) (o : ObjectParts) (s : Section) → slice_get objects i ≡ Some o → slice_get o.sections j ≡ Some s
+    → (is_code s || is_data s) ≡ true → (p : Placed) × Here objects at i o j p
+has_part objects at i j o s e f sort =
+    elim (or_cases (is_code s) (is_data s) sort) [
       | inl y ↦
-          ap (λ (b : Bool). (cond b ((cond b (start + s.size) from) ∷ []) []) ++ end_stops (cond b (start + s.size) from) rest) y
-          ∙ ap (λ (l : List ℕ). (start + s.size) ∷ l) (ends_are (start + s.size) (j + 1) (k + 1) rest)
-          ∙ sym (ap (map (λ p. p.start + p.section.size)) (parts_yes Code from j k s rest y))
-      | inr n ↦
-          ap (λ (b : Bool). (cond b ((cond b (start + s.size) from) ∷ []) []) ++ end_stops (cond b (start + s.size) from) rest) n
-          ∙ ends_are from (j + 1) k rest
-          ∙ sym (ap (map (λ p. p.start + p.section.size)) (parts_no Code from j k s rest n))
+          let a = all_chosen_has is_code 0 objects i j o s e f y in
+          let file : a.part.object ≡ i = let b = a.file in omega arith in
+          let b = placed_has (λ t. max 4 t.align) at.base (all_chosen is_code 0 objects) i j a.part a.there file a.index in
+          made b.part (Contains-append_left (code_parts objects at) (data_parts objects at) b.part b.there) b.file b.index
+      | inr y ↦
+          let a = all_chosen_has is_data 0 objects i j o s e f y in
+          let file : a.part.object ≡ i = let b = a.file in omega arith in
+          let b = placed_has (λ t. t.align) (at.base + at.room) (all_chosen is_data 0 objects) i j a.part a.there file a.index in
+          made b.part (Contains-append_right (code_parts objects at) (data_parts objects at) b.part b.there) b.file b.index
     ]
+  where
+    made : (p : Placed) → Contains (all_placed objects at) p → p.object ≡ i → p.index ≡ j → (q : Placed) × Here objects at i o j q
+    made p c file index =
+        let g = finds (λ (q : Placed). (q.object == i) && (q.index == j)) (all_placed objects at) p c (and_from (p.object == i) (p.index == j) (eq-eqb p.object i file) (eq-eqb p.index j index)) in
+        let h = part_is objects at i j g.0 g.1 in
+        let one : h.object ≡ o = same_Some h.object o (sym h.there ∙ e) in
+        (g.0, record { object = e; section = subst (λ (z : ObjectParts). slice_get z.sections j ≡ Some g.0.section) one h.section; part = g.1 })

@@ -1,19 +1,17 @@
 -- Facts of single sections and of rounding.
-use Rattle.std.proofs.Common.{◌≡◌, ◌≤◌, ◌<◌, ℕ, zero, suc, ◌+◌, ◌-◌, ◌*◌, ◌/◌, ◌^◌, Bool, true, false, cond, List, [], ◌∷◌, length, drop, get_or, replicate, refl, sym, ap, ◌∙◌, subst, inl, inr, arith, mul_comm}
+use Rattle.std.proofs.Common.{◌≡◌, ◌≤◌, ◌<◌, ℕ, ◌+◌, ◌-◌, ◌*◌, ◌/◌, ◌^◌, Bool, true, false, cond, List, [], ◌∷◌, length, replicate, refl, inl, inr, arith, mul_comm}
 use Rattle.std.specs.Prelude.{◌==◌, nat_le, ◌&&◌, not, if◌then◌else◌}
 use Rattle.std.specs.List.{list_all, list_any}
 use Rattle.std.proofs.lemmas.List.{length-replicate}
 use Rattle.std.proofs.Math.Nat.{div-mul-le_self}
-use Rattle.std.proofs.Math.Seq.{drop-cons}
-use Rattle.std.proofs.lemmas.Bool.{and_parts, or_cases, cases_Bool, eqb-true, leb-true, both_ways}
-use Rattle.std.proofs.lemmas.List.Folds.{list_all_at}
+use Rattle.std.proofs.lemmas.Bool.{and_parts, or_cases, eqb-true, leb-true}
 use Rattle.elf_model.specs.declared.objects.Section.{Section}
 use Rattle.elf_model.specs.Constants.{nobits}
 use Rattle.elf_model.specs.Objects.{is_section, is_alignment, is_name, is_dropped_name, is_kept_kind, is_writable, is_exec, has_bytes}
 use Rattle.elf_model.specs.Canonical.{round_up}
 use Rattle.thumb_table.specs.Layouts.{part_bytes}
-use Rattle.flat_link.specs.declared.places.Sort.{Sort}
-use Rattle.flat_link.specs.declared.places.Sort.TheVariants.{Code, Data}
+use Rattle.flat_link.specs.declared.sorts.Sort.{Sort}
+use Rattle.flat_link.specs.declared.sorts.Sort.TheVariants.{Code, Data}
 use Rattle.flat_link.specs.Placing.{alignment_of}
 
 one_of : (a : ℕ) (ks : List ℕ) → list_all (λ k. nat_le 1 (2 ^ k) && nat_le (2 ^ k) 4096) ks ≡ true → list_any (λ k. a == 2 ^ k) ks ≡ true → (0 < a) × (a ≤ 4096)
@@ -59,22 +57,3 @@ rounded x a h =
     let low = div-mul-le_self (x + a - 1) a in
     let near : x + a - 1 < (x + a - 1) / a * a + a = omega (arith, mul_comm ((x + a - 1) / a) a) in
     (omega arith, omega arith)
-
--- what all have, each has
-pub each : {X : Type 0} (p : X → Bool) (xs : List X) (i : ℕ) (x : X) → list_all p xs ≡ true → i < length xs → x ≡ get_or xs i x → p x ≡ true
-each p xs i x h l e =
-    elim (cases_Bool (p x)) [
-      | inl y ↦ y
-      | inr n ↦ absurd (both_ways (list_all p xs) (list_all_at p xs i x l (subst (λ (y : _). p y ≡ false) e n)) h)
-    ]
-
-pub each_rest : {X : Type 0} (p : X → Bool) (xs : List X) (i : ℕ) → list_all p xs ≡ true → list_all p (drop i xs) ≡ true
-each_rest p xs zero h = h
-each_rest p [] (suc i) h = h
-each_rest p (x ∷ xs) (suc i) h = each_rest p xs i (and_parts (p x) (list_all p xs) h).1
-
--- the element that comes next
-pub next : {X : Type 0} (xs : List X) (i : ℕ) (x : X) → i < length xs → x ≡ get_or xs i x → drop i xs ≡ x ∷ drop (i + 1) xs
-next xs i x l e =
-    let s : suc i ≡ i + 1 = omega arith in
-    drop-cons xs i x l ∙ ap (λ (y : _). y ∷ drop (suc i) xs) (sym e) ∙ ap (λ (k : ℕ). x ∷ drop k xs) s

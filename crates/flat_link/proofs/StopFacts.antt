@@ -1,62 +1,29 @@
 -- The stops that are collected are those that an image has.
-use Rattle.std.proofs.Common.{◌≡◌, ℕ, ◌+◌, ◌-◌, Bool, true, false, cond, List, [], ◌∷◌, ◌++◌, refl, sym, ap, ◌∙◌, subst, inl, inr, arith, Option, Some, None}
-use Rattle.std.specs.Prelude.{Contains, slice_get, unwrap_or, option_map, ◌==◌, ◌&&◌, ◌||◌, codes}
-use Rattle.std.specs.List.{list_all}
-use Rattle.std.proofs.lemmas.Bool.{and_parts, and_from, and_left, and_right, or_right, cases_Bool, cases_lt, eqb-true, eq-eqb, both_ways}
+use Rattle.std.proofs.Common.{◌≡◌, ℕ, zero, suc, ◌+◌, Bool, true, false, cond, List, [], ◌∷◌, ◌++◌, filter, refl, sym, ap, ◌∙◌, subst, inl, inr, arith, Option, Some, None}
+use Rattle.std.specs.Prelude.{Contains, slice_get, ◌==◌, ◌&&◌, max, not}
+use Rattle.std.specs.Option.{option_to_list}
+use Rattle.std.proofs.lemmas.Bool.{and_parts, and_from, cases_Bool, eqb-true, both_ways, not-true}
 use Rattle.std.proofs.lemmas.Option.{none-some, same_Some}
 use Rattle.std.proofs.lemmas.List.Elements.{Contains-append_left, Contains-append_right, Contains-append_cases}
-use Rattle.elf_model.specs.declared.objects.Section.{Section}
 use Rattle.elf_model.specs.declared.objects.Symbol.{Symbol}
 use Rattle.elf_model.specs.declared.objects.Home.{Home}
 use Rattle.elf_model.specs.declared.objects.Home.TheVariants as home
-use Rattle.elf_model.specs.Constants.{func}
-use Rattle.elf_model.specs.Objects.{ObjectParts, is_section, is_code}
-use Rattle.thumb_table.specs.Layouts.{Placed}
-use Rattle.thumb_table.specs.Names.{Defined, numbered, all_symbols, is_function, is_in_code, address_of}
-use Rattle.thumb_table.specs.Images.{even, IsDataStart, IsStop}
 use Rattle.elf_model.specs.declared.ranges.RangeKind.{RangeKind}
 use Rattle.elf_model.specs.declared.ranges.RangeKind.TheVariants as kind
+use Rattle.elf_model.specs.Objects.{ObjectParts, is_code, is_data, is_alloc, even}
 use Rattle.elf_model.specs.Ranges.{stands_at}
+use Rattle.elf_model.proofs.Elements.{contains_none, contains_map, map_contains, contains_filter, filter_contains, found, given_by, given_is, given_has}
 use Rattle.code_ranges.specs.Spans.{kind_at}
 use Rattle.code_ranges.proofs.KindFacts.{beginning, kind_here}
+use Rattle.thumb_table.specs.declared.placements.Placement.{Placement}
+use Rattle.thumb_table.specs.Layouts.{Placed, all_placed, code_parts, data_parts, part_of, home_start, start_of}
+use Rattle.thumb_table.specs.Names.{Defined, all_symbols, is_function, is_in_code, address_of}
+use Rattle.thumb_table.specs.Images.{IsDataStart, IsStop}
 use Rattle.thumb_table.specs.Images.IsStop.{at_function, at_data, at_end}
-use Rattle.flat_link.specs.declared.places.Sort.TheVariants.{Code, Data}
-use Rattle.flat_link.specs.Placing.{parts_from, code_starts}
-use Rattle.flat_link.specs.Symbols.{code_start, function_place, function_stops, says_data, begins_data, data_place, data_stops, end_stops}
-use Rattle.flat_link.specs.Made.{all_stops}
-use Rattle.elf_model.proofs.Elements.{contains_none, contains_map, map_contains}
-use Rattle.flat_link.proofs.PartFacts.{both, part_is, start_is, starts_at, code_part, in_code, not_in_code, ends_are}
-use Rattle.flat_link.proofs.SymbolFacts.{defined_at, numbered_is, numbered_has, functions_are, data_are, stop_of, has_stop}
-
-module _ (base memory : ℕ) (sections : List Section) (ok : list_all is_section sections ≡ true) where
-  pub placed_function : (s : Symbol) (k a : ℕ) → function_place (code_starts base sections) s ≡ Some a
-      → (is_function (both base memory sections) (defined_at 0 k s) ≡ true) × (even (address_of (both base memory sections) (defined_at 0 k s)) ≡ a)
-  placed_function s k a h = go (s.kind == func) refl h
-    where
-      place : (s.kind == func) ≡ true → (o : Option ℕ) → code_start (code_starts base sections) s.home ≡ o → option_map (λ start. even (start + s.value)) o ≡ Some a
-          → (is_function (both base memory sections) (defined_at 0 k s) ≡ true) × (even (address_of (both base memory sections) (defined_at 0 k s)) ≡ a)
-      place y None e h = absurd (none-some a h)
-      place y (Some b) e h =
-          let c = in_code base memory sections s.home b ok e in
-          (and_from (s.kind == func) (is_in_code (both base memory sections) 0 s.home) y c.0, ap (λ (n : ℕ). even (n + s.value)) c.1 ∙ same_Some _ _ h)
-
-      go : (b : Bool) → (s.kind == func) ≡ b → cond b (option_map (λ start. even (start + s.value)) (code_start (code_starts base sections) s.home)) None ≡ Some a
-          → (is_function (both base memory sections) (defined_at 0 k s) ≡ true) × (even (address_of (both base memory sections) (defined_at 0 k s)) ≡ a)
-      go true y h = place y (code_start (code_starts base sections) s.home) refl h
-      go false y h = absurd (none-some a h)
-
-  pub no_function : (s : Symbol) (k : ℕ) → function_place (code_starts base sections) s ≡ None → is_function (both base memory sections) (defined_at 0 k s) ≡ false
-  no_function s k h = go (s.kind == func) refl h
-    where
-      place : (o : Option ℕ) → code_start (code_starts base sections) s.home ≡ o → option_map (λ start. even (start + s.value)) o ≡ None
-          → is_function (both base memory sections) (defined_at 0 k s) ≡ false
-      place None e h = and_right (s.kind == func) (is_in_code (both base memory sections) 0 s.home) (not_in_code base memory sections s.home e)
-      place (Some b) e h = absurd (none-some (even (b + s.value)) (sym h))
-
-      go : (b : Bool) → (s.kind == func) ≡ b → cond b (option_map (λ start. even (start + s.value)) (code_start (code_starts base sections) s.home)) None ≡ None
-          → is_function (both base memory sections) (defined_at 0 k s) ≡ false
-      go true y h = place (code_start (code_starts base sections) s.home) refl h
-      go false y h = and_left (s.kind == func) (is_in_code (both base memory sections) 0 s.home) y
+use Rattle.flat_link.specs.Layout.{AreObjects}
+use Rattle.flat_link.specs.Stops.{function_stops, says_data, begins_data, data_place, data_stops, all_data_stops, end_stops}
+use Rattle.flat_link.proofs.PartFacts.{part_is, comes_from}
+use Rattle.flat_link.proofs.PartOrder.{the_part}
 
 -- what says that data begins
 data_kind : (k : Option RangeKind) → says_data k ≡ true → k ≡ Some kind.Data
@@ -65,127 +32,160 @@ data_kind (Some kind.Code) h = absurd (cc)
 data_kind (Some kind.Arm) h = absurd (cc)
 data_kind (Some kind.Data) h = refl
 
-in_table : (o : Option (Option ℕ)) (a : ℕ) → unwrap_or o None ≡ Some a → o ≡ Some (Some a)
-in_table None a e = absurd (none-some a e)
-in_table (Some x) a e = ap (λ (y : Option ℕ). Some y) e
+data_are : (parts : List Placed) (i : ℕ) (symbols : List Symbol) (k : ℕ) (rest : List Symbol) → data_stops parts i symbols rest ≡ given_by (λ k s. data_place parts i symbols s) k rest
+data_are parts i symbols k [] = refl
+data_are parts i symbols k (s ∷ rest) = ap (λ (l : List ℕ). option_to_list (data_place parts i symbols s) ++ l) (data_are parts i symbols (k + 1) rest)
 
-module _ (base memory : ℕ) (o : ObjectParts) (ok : list_all is_section o.sections ≡ true) where
-  data_stop : (s : Symbol) (b : ℕ) (h : Home) → begins_data o.symbols h s.value ≡ true → code_start (code_starts base o.sections) h ≡ Some b → IsStop (o ∷ []) (both base memory o.sections) (b + s.value)
-  data_stop s b home.Undefined y c = absurd (none-some b c)
-  data_stop s b home.Absolute y c = absurd (none-some b c)
-  data_stop s b (home.Section j) y c =
-      let r = starts_at base 0 0 o.sections j b ok (in_table (slice_get (code_starts base o.sections) j) b c) in
-      let code = (part_is Code base 0 0 o.sections r.part r.there).sorted in
-      let number : j ≡ r.part.index = omega (arith, r.number) in
-      let start = beginning o kind.Data j s.value (data_kind (kind_at o.symbols j s.value) y) in
-      subst (λ (n : ℕ). IsStop (o ∷ []) (both base memory o.sections) (n + s.value)) r.at
-      (at_data r.part o s.value (Contains-append_left (parts_from Code base 0 0 o.sections) (parts_from Data memory 0 0 o.sections) r.part r.there) code
-      (ap (slice_get (o ∷ [])) r.object) (subst (λ (n : ℕ). IsDataStart o n s.value) number start))
+-- a stop of one of the objects
+record IsDataStop (parts : List Placed) (i : ℕ) (objects : List ObjectParts) (a : ℕ) : Type 0 where
+  pub number : ℕ
+  pub object : ObjectParts
+  pub there : slice_get objects number ≡ Some object
+  pub stop : Contains (data_stops parts (i + number) object.symbols object.symbols) a
 
-  data_to : (s : Symbol) (a : ℕ) → data_place (code_starts base o.sections) o.symbols s ≡ Some a → IsStop (o ∷ []) (both base memory o.sections) a
-  data_to s a h = go (begins_data o.symbols s.home s.value) refl h
+all_data_is : (parts : List Placed) (i : ℕ) (objects : List ObjectParts) (a : ℕ) → Contains (all_data_stops parts i objects) a → IsDataStop parts i objects a
+all_data_is parts i [] a c = absurd (contains_none a c)
+all_data_is parts i (o ∷ rest) a c =
+    elim (Contains-append_cases (data_stops parts i o.symbols o.symbols) (all_data_stops parts (i + 1) rest) a c) [
+      | inl x ↦
+          let z : i ≡ i + 0 = omega arith in
+          record { number = 0; object = o; there = refl; stop = subst (λ (n : ℕ). Contains (data_stops parts n o.symbols o.symbols) a) z x }
+      | inr y ↦
+          let h = all_data_is parts (i + 1) rest a y in
+          let z : (i + 1) + h.number ≡ i + suc h.number = omega arith in
+          record { number = suc h.number; object = h.object; there = h.there; stop = subst (λ (n : ℕ). Contains (data_stops parts n h.object.symbols h.object.symbols) a) z h.stop }
+    ]
+
+all_data_has : (parts : List Placed) (i : ℕ) (objects : List ObjectParts) (n : ℕ) (o : ObjectParts) (a : ℕ) → slice_get objects n ≡ Some o → Contains (data_stops parts (i + n) o.symbols o.symbols) a → Contains (all_data_stops parts i objects) a
+all_data_has parts i [] n o a e c = absurd (none-some o e)
+all_data_has parts i (q ∷ rest) zero o a e c =
+    let z : i + 0 ≡ i = omega arith in
+    Contains-append_left (data_stops parts i q.symbols q.symbols) (all_data_stops parts (i + 1) rest) a
+    (subst (λ (m : ℕ). Contains (data_stops parts m q.symbols q.symbols) a) z (subst (λ (x : ObjectParts). Contains (data_stops parts (i + 0) x.symbols x.symbols) a) (sym (same_Some q o e)) c))
+all_data_has parts i (q ∷ rest) (suc n) o a e c =
+    let z : i + suc n ≡ (i + 1) + n = omega arith in
+    Contains-append_right (data_stops parts i q.symbols q.symbols) (all_data_stops parts (i + 1) rest) a
+    (all_data_has parts (i + 1) rest n o a e (subst (λ (m : ℕ). Contains (data_stops parts m o.symbols o.symbols) a) z c))
+
+module _ (objects : List ObjectParts) (at : Placement) (sound : AreObjects objects) where
+  -- a symbol that is defined in code
+  pub record InCode (i : ℕ) (h : Home) : Type 0 where
+    pub section : ℕ
+    pub part : Placed
+    pub home : h ≡ home.Section section
+    pub there : part_of (all_placed objects at) i section ≡ Some part
+    pub code : is_code part.section ≡ true
+
+  pub in_code : (i : ℕ) (h : Home) → is_in_code (all_placed objects at) i h ≡ true → InCode i h
+  in_code i home.Undefined y = absurd (cc)
+  in_code i home.Absolute y = absurd (cc)
+  in_code i (home.Section j) y = go (part_of (all_placed objects at) i j) refl y
     where
-      place : begins_data o.symbols s.home s.value ≡ true → (c : Option ℕ) → code_start (code_starts base o.sections) s.home ≡ c
-          → option_map (λ start. start + s.value) c ≡ Some a → IsStop (o ∷ []) (both base memory o.sections) a
-      place y None c h = absurd (none-some a h)
-      place y (Some b) c h = subst (λ (n : ℕ). IsStop (o ∷ []) (both base memory o.sections) n) (same_Some _ _ h) (data_stop s b s.home y c)
+      code_of : Option Placed → Bool
+      code_of None = false
+      code_of (Some p) = is_code p.section
 
-      go : (b : Bool) → begins_data o.symbols s.home s.value ≡ b
-          → cond b (option_map (λ start. start + s.value) (code_start (code_starts base o.sections) s.home)) None ≡ Some a → IsStop (o ∷ []) (both base memory o.sections) a
-      go true y h = place y (code_start (code_starts base o.sections) s.home) refl h
-      go false y h = absurd (none-some a h)
+      go : (p : Option Placed) → part_of (all_placed objects at) i j ≡ p → code_of p ≡ true → InCode i (home.Section j)
+      go None e y = absurd (cc)
+      go (Some p) e y = record { section = j; part = p; home = refl; there = e; code = y }
 
-  function_to : (k : ℕ) (s : Symbol) (a : ℕ) → slice_get o.symbols k ≡ Some s → function_place (code_starts base o.sections) s ≡ Some a → IsStop (o ∷ []) (both base memory o.sections) a
-  function_to k s a e h =
-      let p = placed_function base memory o.sections ok s (0 + k) a h in
-      subst (λ (n : ℕ). IsStop (o ∷ []) (both base memory o.sections) n) p.1
-      (at_function (defined_at 0 (0 + k) s) (Contains-append_left (numbered 0 0 o.symbols) [] (defined_at 0 (0 + k) s) (numbered_has 0 0 o.symbols k s e)) p.0)
-
-  pub to_stop : (a : ℕ) → Contains (all_stops o.sections o.symbols base) a → IsStop (o ∷ []) (both base memory o.sections) a
-  to_stop a h =
-      let starts = code_starts base o.sections in
-      elim (Contains-append_cases (function_stops starts o.symbols ++ data_stops starts o.symbols o.symbols) (end_stops base o.sections) a h) [
-        | inl x ↦
-            elim (Contains-append_cases (function_stops starts o.symbols) (data_stops starts o.symbols o.symbols) a x) [
-              | inl f ↦
-                  let r = stop_of (λ k s. function_place starts s) 0 o.symbols a (subst (λ (l : List ℕ). Contains l a) (functions_are starts 0 o.symbols) f) in
-                  function_to r.index r.symbol a r.there r.stop
-              | inr d ↦
-                  let r = stop_of (λ k s. data_place starts o.symbols s) 0 o.symbols a (subst (λ (l : List ℕ). Contains l a) (data_are starts o.symbols 0 o.symbols) d) in
-                  data_to r.symbol a r.stop
-            ]
-        | inr e ↦
-            let r = contains_map (λ p. p.start + p.section.size) (parts_from Code base 0 0 o.sections) a (subst (λ (l : List ℕ). Contains l a) (ends_are base 0 0 o.sections) e) in
-            subst (λ (n : ℕ). IsStop (o ∷ []) (both base memory o.sections) n) r.2
-            (at_end r.0 (Contains-append_left (parts_from Code base 0 0 o.sections) (parts_from Data memory 0 0 o.sections) r.0 r.1) (part_is Code base 0 0 o.sections r.0 r.1).sorted)
+  data_to : (i : ℕ) (o : ObjectParts) (s : Symbol) (a : ℕ) → slice_get objects i ≡ Some o → data_place (all_placed objects at) i o.symbols s ≡ Some a → IsStop objects (all_placed objects at) a
+  data_to i o s a e h =
+      elim (cases_Bool (begins_data o.symbols s.home s.value && is_in_code (all_placed objects at) i s.home)) [
+        | inr n ↦ absurd (none-some a (sym (ap (λ (b : Bool). cond b (Some (home_start (all_placed objects at) i s.home + s.value)) None) n) ∙ h))
+        | inl y ↦
+            let p = and_parts (begins_data o.symbols s.home s.value) (is_in_code (all_placed objects at) i s.home) y in
+            let c = in_code i s.home p.1 in
+            let is : home_start (all_placed objects at) i s.home + s.value ≡ a = same_Some _ _ (sym (ap (λ (b : Bool). cond b (Some (home_start (all_placed objects at) i s.home + s.value)) None) y) ∙ h) in
+            let f = part_is objects at i c.section c.part c.there in
+            let g = found (λ (q : Placed). (q.object == i) && (q.index == c.section)) (all_placed objects at) c.part c.there in
+            let begins : begins_data o.symbols (home.Section c.section) s.value ≡ true = ap (λ (x : Home). begins_data o.symbols x s.value) (sym c.home) ∙ p.0 in
+            let start = beginning o kind.Data c.section s.value (data_kind (kind_at o.symbols c.section s.value) begins) in
+            let stands : home_start (all_placed objects at) i s.home ≡ c.part.start = ap (λ (x : Home). home_start (all_placed objects at) i x) c.home ∙ ap start_of c.there in
+            subst (λ (n : ℕ). IsStop objects (all_placed objects at) n) (ap (λ (n : ℕ). n + s.value) (sym stands) ∙ is)
+            (at_data c.part o s.value g.0 c.code (ap (slice_get objects) f.file ∙ e) (subst (λ (n : ℕ). IsDataStart o n s.value) (sym f.index) start))
       ]
 
-  function_from : (d : Defined) → Contains (all_symbols 0 (o ∷ [])) d → is_function (both base memory o.sections) d ≡ true
-      → Contains (function_stops (code_starts base o.sections) o.symbols) (even (address_of (both base memory o.sections) d))
-  function_from d c y =
-      let starts = code_starts base o.sections in
-      let n = numbered_is 0 0 o.symbols d (within c) in
-      let same : d ≡ defined_at 0 d.index d.symbol = ap (λ (i : ℕ). defined_at i d.index d.symbol) n.object in
-      go n.there same (function_place starts d.symbol) refl
-    where
-      within : Contains (numbered 0 0 o.symbols ++ []) d → Contains (numbered 0 0 o.symbols) d
-      within c =
-          elim (Contains-append_cases (numbered 0 0 o.symbols) [] d c) [
-            | inl a ↦ a
-            | inr b ↦ absurd (contains_none d b)
-          ]
+  pub to_stop : (a : ℕ) → Contains ((function_stops (all_placed objects at) (all_symbols 0 objects) ++ all_data_stops (all_placed objects at) 0 objects) ++ end_stops (code_parts objects at)) a → IsStop objects (all_placed objects at) a
+  to_stop a h =
+      elim (Contains-append_cases (function_stops (all_placed objects at) (all_symbols 0 objects) ++ all_data_stops (all_placed objects at) 0 objects) (end_stops (code_parts objects at)) a h) [
+        | inl x ↦
+            elim (Contains-append_cases (function_stops (all_placed objects at) (all_symbols 0 objects)) (all_data_stops (all_placed objects at) 0 objects) a x) [
+              | inl f ↦
+                  let r = contains_map (λ (d : Defined). even (address_of (all_placed objects at) d)) (filter (λ (d : Defined). is_function (all_placed objects at) d) (all_symbols 0 objects)) a f in
+                  let q = contains_filter (λ (d : Defined). is_function (all_placed objects at) d) (all_symbols 0 objects) r.0 r.1 in
+                  subst (λ (n : ℕ). IsStop objects (all_placed objects at) n) r.2 (at_function r.0 q.0 q.1)
+              | inr d ↦
+                  let r = all_data_is (all_placed objects at) 0 objects a d in
+                  let z : 0 + r.number ≡ r.number = omega arith in
+                  let g = given_is (λ k s. data_place (all_placed objects at) r.number r.object.symbols s) 0 r.object.symbols a
+                  (subst (λ (l : List ℕ). Contains l a) (data_are (all_placed objects at) r.number r.object.symbols 0 r.object.symbols)
+                  (subst (λ (n : ℕ). Contains (data_stops (all_placed objects at) n r.object.symbols r.object.symbols) a) z r.stop)) in
+                  data_to r.number r.object g.source a r.there g.gives
+            ]
+        | inr e ↦
+            let r = contains_map (λ (p : Placed). p.start + p.section.size) (code_parts objects at) a e in
+            let c = comes_from is_code (λ s. max 4 s.align) at.base objects r.0 r.1 in
+            subst (λ (n : ℕ). IsStop objects (all_placed objects at) n) r.2
+            (at_end r.0 (Contains-append_left (code_parts objects at) (data_parts objects at) r.0 r.1) c.is_sort)
+      ]
 
-      go : slice_get o.symbols (d.index - 0) ≡ Some d.symbol → d ≡ defined_at 0 d.index d.symbol → (p : Option ℕ) → function_place (code_starts base o.sections) d.symbol ≡ p
-          → Contains (function_stops (code_starts base o.sections) o.symbols) (even (address_of (both base memory o.sections) d))
-      go at same None e =
-          absurd (both_ways (is_function (both base memory o.sections) d)
-          (ap (is_function (both base memory o.sections)) same ∙ no_function base memory o.sections ok d.symbol d.index e) y)
-      go at same (Some b) e =
-          let p = placed_function base memory o.sections ok d.symbol d.index b e in
-          let i : d.index - 0 ≡ d.index = omega arith in
-          let z : even (address_of (both base memory o.sections) d) ≡ b = ap (λ (q : Defined). even (address_of (both base memory o.sections) q)) same ∙ p.1 in
-          subst (λ (l : List ℕ). Contains l (even (address_of (both base memory o.sections) d))) (sym (functions_are (code_starts base o.sections) 0 o.symbols))
-          (has_stop (λ k s. function_place (code_starts base o.sections) s) 0 o.symbols (d.index - 0) d.symbol (even (address_of (both base memory o.sections) d)) at (e ∙ ap (λ (n : ℕ). Some n) (sym z)))
+  -- a part of code is among those of code
+  pub code_part : (p : Placed) → Contains (all_placed objects at) p → is_code p.section ≡ true → Contains (code_parts objects at) p
+  code_part p h y =
+      elim (Contains-append_cases (code_parts objects at) (data_parts objects at) p h) [
+        | inl a ↦ a
+        | inr b ↦
+            let q = comes_from is_data (λ s. s.align) (at.base + at.room) objects p b in
+            let d = and_parts (is_alloc p.section.flags) (not (is_code p.section)) q.is_sort in
+            absurd (both_ways (is_code p.section) (not-true (is_code p.section) d.1) y)
+      ]
 
-  data_from : (p : Placed) (x : ℕ) → Contains (both base memory o.sections) p → is_code p.section ≡ true → IsDataStart o p.index x
-      → Contains (data_stops (code_starts base o.sections) o.symbols o.symbols) (p.start + x)
-  data_from p x c y d =
-      let s = start_is base 0 0 o.sections p (code_part base memory o.sections p c y) in
-      let i : p.index - 0 ≡ p.index = omega arith in
-      let at : slice_get (code_starts base o.sections) p.index ≡ Some (Some p.start) = ap (slice_get (code_starts base o.sections)) (sym i) ∙ s.1 in
-      subst (λ (l : List ℕ). Contains l (p.start + x)) (sym (data_are (code_starts base o.sections) o.symbols 0 o.symbols))
-      (has_stop (λ k s. data_place (code_starts base o.sections) o.symbols s) 0 o.symbols d.index d.symbol (p.start + x) d.is_there (place at d.symbol.home refl d.stands (kind_here o kind.Data p.index x d)))
+  data_from : (p : Placed) (o : ObjectParts) (x : ℕ) → Contains (all_placed objects at) p → is_code p.section ≡ true → slice_get objects p.object ≡ Some o → IsDataStart o p.index x
+      → Contains (data_stops (all_placed objects at) p.object o.symbols o.symbols) (p.start + x)
+  data_from p o x c y e d =
+      subst (λ (l : List ℕ). Contains l (p.start + x)) (sym (data_are (all_placed objects at) p.object o.symbols 0 o.symbols))
+      (given_has (λ k s. data_place (all_placed objects at) p.object o.symbols s) 0 o.symbols d.index d.symbol (p.start + x) d.is_there (place d.symbol.home refl d.stands (kind_here o kind.Data p.index x d)))
     where
-      place : slice_get (code_starts base o.sections) p.index ≡ Some (Some p.start) → (h : Home) → d.symbol.home ≡ h → stands_at p.index x h d.symbol.value ≡ true
-          → kind_at o.symbols p.index x ≡ Some kind.Data → data_place (code_starts base o.sections) o.symbols d.symbol ≡ Some (p.start + x)
-      place at home.Undefined e stands l = absurd (cc)
-      place at home.Absolute e stands l = absurd (cc)
-      place at (home.Section j) e stands l =
+      place : (h : Home) → d.symbol.home ≡ h → stands_at p.index x h d.symbol.value ≡ true → kind_at o.symbols p.index x ≡ Some kind.Data
+          → data_place (all_placed objects at) p.object o.symbols d.symbol ≡ Some (p.start + x)
+      place home.Undefined f stands l = absurd (cc)
+      place home.Absolute f stands l = absurd (cc)
+      place (home.Section j) f stands l =
           let q = and_parts (j == p.index) (d.symbol.value == x) stands in
           let same_j : j ≡ p.index = eqb-true j p.index q.0 in
           let same_x : d.symbol.value ≡ x = eqb-true d.symbol.value x q.1 in
+          let its : part_of (all_placed objects at) p.object j ≡ Some p = ap (λ (n : ℕ). part_of (all_placed objects at) p.object n) same_j ∙ the_part objects at sound p c in
           let begins : begins_data o.symbols d.symbol.home d.symbol.value ≡ true =
-          ap (λ (h : Home). begins_data o.symbols h d.symbol.value) e ∙ ap (λ (n : ℕ). says_data (kind_at o.symbols n d.symbol.value)) same_j
+          ap (λ (h : Home). begins_data o.symbols h d.symbol.value) f ∙ ap (λ (n : ℕ). says_data (kind_at o.symbols n d.symbol.value)) same_j
           ∙ ap (λ (n : ℕ). says_data (kind_at o.symbols p.index n)) same_x ∙ ap says_data l in
-          let start : code_start (code_starts base o.sections) d.symbol.home ≡ Some p.start =
-          ap (code_start (code_starts base o.sections)) e ∙ ap (λ (n : ℕ). unwrap_or (slice_get (code_starts base o.sections) n) None) same_j ∙ ap (λ (t : Option (Option ℕ)). unwrap_or t None) at in
-          ap (λ (b : Bool). cond b (option_map (λ start. start + d.symbol.value) (code_start (code_starts base o.sections) d.symbol.home)) None) begins
-          ∙ ap (option_map (λ start. start + d.symbol.value)) start ∙ ap (λ (n : ℕ). Some (p.start + n)) same_x
+          let code : is_in_code (all_placed objects at) p.object d.symbol.home ≡ true = ap (is_in_code (all_placed objects at) p.object) f ∙ code_by j its in
+          let start : home_start (all_placed objects at) p.object d.symbol.home ≡ p.start = ap (home_start (all_placed objects at) p.object) f ∙ ap start_of its in
+          ap (λ (b : Bool). cond b (Some (home_start (all_placed objects at) p.object d.symbol.home + d.symbol.value)) None) (and_from (begins_data o.symbols d.symbol.home d.symbol.value) (is_in_code (all_placed objects at) p.object d.symbol.home) begins code)
+          ∙ ap (λ (n : ℕ). Some (n + d.symbol.value)) start ∙ ap (λ (n : ℕ). Some (p.start + n)) same_x
+        where
+          code_of : Option Placed → Bool
+          code_of None = false
+          code_of (Some q) = is_code q.section
 
-  pub from_stop : (a : ℕ) → IsStop (o ∷ []) (both base memory o.sections) a → Contains (all_stops o.sections o.symbols base) a
+          code_by : (j : ℕ) → part_of (all_placed objects at) p.object j ≡ Some p → is_in_code (all_placed objects at) p.object (home.Section j) ≡ true
+          code_by j e = ap (λ (q : Option Placed). code_of q) e ∙ y
+
+  pub from_stop : (a : ℕ) → IsStop objects (all_placed objects at) a → Contains ((function_stops (all_placed objects at) (all_symbols 0 objects) ++ all_data_stops (all_placed objects at) 0 objects) ++ end_stops (code_parts objects at)) a
   from_stop a (at_function d c y) =
-      let starts = code_starts base o.sections in
-      Contains-append_left (function_stops starts o.symbols ++ data_stops starts o.symbols o.symbols) (end_stops base o.sections) (even (address_of (both base memory o.sections) d))
-      (Contains-append_left (function_stops starts o.symbols) (data_stops starts o.symbols o.symbols) (even (address_of (both base memory o.sections) d)) (function_from d c y))
-  from_stop a (at_data p q x c y e d) =
-      let starts = code_starts base o.sections in
-      let zero_is = (part_is Code base 0 0 o.sections p (code_part base memory o.sections p c y)).object in
-      let same : q ≡ o = same_Some q o (sym e ∙ ap (slice_get (o ∷ [])) zero_is) in
-      Contains-append_left (function_stops starts o.symbols ++ data_stops starts o.symbols o.symbols) (end_stops base o.sections) (p.start + x)
-      (Contains-append_right (function_stops starts o.symbols) (data_stops starts o.symbols o.symbols) (p.start + x)
-      (data_from p x c y (subst (λ (z : ObjectParts). IsDataStart z p.index x) same d)))
+      let functions = function_stops (all_placed objects at) (all_symbols 0 objects) in
+      Contains-append_left (functions ++ all_data_stops (all_placed objects at) 0 objects) (end_stops (code_parts objects at)) (even (address_of (all_placed objects at) d))
+      (Contains-append_left functions (all_data_stops (all_placed objects at) 0 objects) (even (address_of (all_placed objects at) d))
+      (map_contains (λ (d : Defined). even (address_of (all_placed objects at) d)) (filter (λ (d : Defined). is_function (all_placed objects at) d) (all_symbols 0 objects)) d
+      (filter_contains (λ (d : Defined). is_function (all_placed objects at) d) (all_symbols 0 objects) d c y)))
+  from_stop a (at_data p o x c y e d) =
+      let functions = function_stops (all_placed objects at) (all_symbols 0 objects) in
+      let z : p.object ≡ 0 + p.object = omega arith in
+      Contains-append_left (functions ++ all_data_stops (all_placed objects at) 0 objects) (end_stops (code_parts objects at)) (p.start + x)
+      (Contains-append_right functions (all_data_stops (all_placed objects at) 0 objects) (p.start + x)
+      (all_data_has (all_placed objects at) 0 objects p.object o (p.start + x) e
+      (subst (λ (n : ℕ). Contains (data_stops (all_placed objects at) n o.symbols o.symbols) (p.start + x)) z (data_from p o x c y e d))))
   from_stop a (at_end p c y) =
-      let starts = code_starts base o.sections in
-      Contains-append_right (function_stops starts o.symbols ++ data_stops starts o.symbols o.symbols) (end_stops base o.sections) (p.start + p.section.size)
-      (subst (λ (l : List ℕ). Contains l (p.start + p.section.size)) (sym (ends_are base 0 0 o.sections))
-      (map_contains (λ p. p.start + p.section.size) (parts_from Code base 0 0 o.sections) p (code_part base memory o.sections p c y)))
+      let functions = function_stops (all_placed objects at) (all_symbols 0 objects) in
+      Contains-append_right (functions ++ all_data_stops (all_placed objects at) 0 objects) (end_stops (code_parts objects at)) (p.start + p.section.size)
+      (map_contains (λ (p : Placed). p.start + p.section.size) (code_parts objects at) p (code_part p c y))

@@ -1,12 +1,26 @@
--- Symbols by their numbers, and the stops that they give.
-use Rattle.std.proofs.Common.{◌≡◌, ◌≤◌, ℕ, zero, suc, ◌+◌, ◌-◌, List, [], ◌∷◌, ◌++◌, refl, sym, ap, ◌∙◌, subst, inl, inr, arith, Option, Some, None}
-use Rattle.std.specs.Prelude.{Contains, slice_get}
-use Rattle.std.specs.Option.{option_to_list}
+-- The symbols of all objects, by their objects and numbers, and in their order.
+use Rattle.std.proofs.Common.{◌≡◌, ◌≤◌, ◌<◌, ℕ, zero, suc, ◌+◌, ◌-◌, ◌^◌, Bool, true, false, cond, List, [], ◌∷◌, ◌++◌, length, get_or, map, refl, sym, ap, ◌∙◌, subst, inl, inr, arith, Option, Some, None}
+use Rattle.std.specs.Prelude.{Contains, slice_get, ◌==◌, max}
+use Rattle.std.proofs.lemmas.Bool.{and_parts, leb-true}
 use Rattle.std.proofs.lemmas.Option.{none-some, same_Some}
+use Rattle.std.proofs.lemmas.List.Elements.{Contains-append_cases, Contains-append_left, Contains-append_right}
+use Rattle.elf_model.specs.declared.objects.Section.{Section}
 use Rattle.elf_model.specs.declared.objects.Symbol.{Symbol}
-use Rattle.thumb_table.specs.Names.{Defined, numbered}
-use Rattle.flat_link.specs.Symbols.{function_place, function_stops, data_place, data_stops}
-use Rattle.elf_model.proofs.Elements.{contains_cases, contains_here, contains_later, contains_none}
+use Rattle.elf_model.specs.declared.objects.Home.{Home}
+use Rattle.elf_model.specs.declared.objects.Home.TheVariants as home
+use Rattle.elf_model.specs.Constants.{func}
+use Rattle.elf_model.specs.Objects.{ObjectParts, is_object, is_symbol, is_inside, is_at_home, has_home, even}
+use Rattle.elf_model.proofs.Elements.{contains_cases, contains_here, contains_later, contains_none, all_at, map_contains}
+use Rattle.thumb_table.specs.declared.placements.Placement.{Placement}
+use Rattle.thumb_table.specs.Layouts.{Placed, all_placed, code_parts, part_of, home_start, start_of}
+use Rattle.thumb_table.specs.Names.{Defined, numbered, all_symbols}
+use Rattle.thumb_table.specs.LinkFaults.{StandsBefore}
+use Rattle.flat_link.specs.declared.lots.Lot.{Lot}
+use Rattle.flat_link.specs.Lots.{placed_of}
+use Rattle.flat_link.specs.Layout.{AreObjects, Fits}
+use Rattle.flat_link.proofs.ListFacts.{InOrder, none, before, has_at}
+use Rattle.flat_link.proofs.RawBytes.{ends_inside}
+use Rattle.flat_link.proofs.PartFacts.{part_is, code_good, data_good}
 
 abbrev pub defined_at : ℕ → ℕ → Symbol → Defined
 defined_at i k s = record { object = i; index = k; symbol = s }
@@ -37,61 +51,133 @@ numbered_has i k [] j s e = absurd (none-some s e)
 numbered_has i k (t ∷ rest) zero s e =
     let a : k ≡ k + 0 = omega arith in
     let b : t ≡ s = same_Some t s e in
-    let eq : defined_at i k t ≡ defined_at i (k + 0) s = ap (λ (n : ℕ). defined_at i n t) a ∙ ap (λ (u : Symbol). defined_at i (k + 0) u) b in
-    subst (λ (q : Defined). Contains (numbered i k (t ∷ rest)) q) eq (contains_here (defined_at i k t) (numbered i (k + 1) rest))
+    subst (λ (n : ℕ). Contains (numbered i k (t ∷ rest)) (defined_at i n s)) a
+    (subst (λ (x : Symbol). Contains (numbered i k (t ∷ rest)) (defined_at i k x)) b (contains_here (defined_at i k t) (numbered i (k + 1) rest)))
 numbered_has i k (t ∷ rest) (suc j) s e =
     let a : (k + 1) + j ≡ k + suc j = omega arith in
-    subst (λ (n : ℕ). Contains (numbered i k (t ∷ rest)) (defined_at i n s)) a
-    (contains_later (defined_at i k t) (numbered i (k + 1) rest) (defined_at i ((k + 1) + j) s) (numbered_has i (k + 1) rest j s e))
+    contains_later (defined_at i k t) (numbered i (k + 1) rest) (defined_at i (k + suc j) s)
+    (subst (λ (n : ℕ). Contains (numbered i (k + 1) rest) (defined_at i n s)) a (numbered_has i (k + 1) rest j s e))
 
--- stops that each symbol may give
-abbrev pub stops_by : (ℕ → Symbol → Option ℕ) → ℕ → List Symbol → List ℕ
-stops_by f k [] = []
-stops_by f k (s ∷ rest) = option_to_list (f k s) ++ stops_by f (k + 1) rest
+-- the object and number of one of all symbols
+pub record IsKnown (i : ℕ) (objects : List ObjectParts) (d : Defined) : Type 0 where
+  pub object : ObjectParts
+  pub above : i ≤ d.object
+  pub there : slice_get objects (d.object - i) ≡ Some object
+  pub symbol : slice_get object.symbols d.index ≡ Some d.symbol
 
-pub functions_are : (starts : List (Option ℕ)) (k : ℕ) (xs : List Symbol) → function_stops starts xs ≡ stops_by (λ k s. function_place starts s) k xs
-functions_are starts k [] = refl
-functions_are starts k (s ∷ rest) = ap (λ (t : List ℕ). option_to_list (function_place starts s) ++ t) (functions_are starts (k + 1) rest)
+later_known : (i : ℕ) (o : ObjectParts) (rest : List ObjectParts) (d : Defined) → IsKnown (i + 1) rest d → IsKnown i (o ∷ rest) d
+later_known i o rest d h =
+    let a = h.above in
+    let n : d.object - i ≡ suc (d.object - (i + 1)) = omega arith in
+    record { object = h.object; above = omega arith; there = ap (slice_get (o ∷ rest)) n ∙ h.there; symbol = h.symbol }
 
-pub data_are : (starts : List (Option ℕ)) (symbols : List Symbol) (k : ℕ) (xs : List Symbol) → data_stops starts symbols xs ≡ stops_by (λ k s. data_place starts symbols s) k xs
-data_are starts symbols k [] = refl
-data_are starts symbols k (s ∷ rest) = ap (λ (t : List ℕ). option_to_list (data_place starts symbols s) ++ t) (data_are starts symbols (k + 1) rest)
+pub known_is : (i : ℕ) (objects : List ObjectParts) (d : Defined) → Contains (all_symbols i objects) d → IsKnown i objects d
+known_is i [] d c = absurd (contains_none d c)
+known_is i (o ∷ rest) d c =
+    elim (Contains-append_cases (numbered i 0 o.symbols) (all_symbols (i + 1) rest) d c) [
+      | inl a ↦
+          let h = numbered_is i 0 o.symbols d a in
+          let e = h.object in
+          let z : d.object - i ≡ 0 = omega arith in
+          let k : d.index ≡ d.index - 0 = omega arith in
+          record { object = o; above = omega arith; there = ap (slice_get (o ∷ rest)) z; symbol = ap (slice_get o.symbols) k ∙ h.there }
+      | inr b ↦ later_known i o rest d (known_is (i + 1) rest d b)
+    ]
 
-pub record IsStopBy (f : ℕ → Symbol → Option ℕ) (k : ℕ) (xs : List Symbol) (a : ℕ) : Type 0 where
-  pub index : ℕ
-  pub symbol : Symbol
-  pub there : slice_get xs index ≡ Some symbol
-  pub stop : f (k + index) symbol ≡ Some a
+known_from : (i : ℕ) (objects : List ObjectParts) (n : ℕ) (o : ObjectParts) (k : ℕ) (s : Symbol) → slice_get objects n ≡ Some o → slice_get o.symbols k ≡ Some s → Contains (all_symbols i objects) (defined_at (i + n) k s)
+known_from i [] n o k s e f = absurd (none-some o e)
+known_from i (q ∷ rest) zero o k s e f =
+    let a : i ≡ i + 0 = omega arith in
+    let b : 0 + k ≡ k = omega arith in
+    let f2 : slice_get q.symbols k ≡ Some s = subst (λ (z : ObjectParts). slice_get z.symbols k ≡ Some s) (sym (same_Some q o e)) f in
+    Contains-append_left (numbered i 0 q.symbols) (all_symbols (i + 1) rest) (defined_at (i + 0) k s)
+    (subst (λ (n : ℕ). Contains (numbered i 0 q.symbols) (defined_at n k s)) a (subst (λ (n : ℕ). Contains (numbered i 0 q.symbols) (defined_at i n s)) b (numbered_has i 0 q.symbols k s f2)))
+known_from i (q ∷ rest) (suc n) o k s e f =
+    let a : (i + 1) + n ≡ i + suc n = omega arith in
+    Contains-append_right (numbered i 0 q.symbols) (all_symbols (i + 1) rest) (defined_at (i + suc n) k s)
+    (subst (λ (m : ℕ). Contains (all_symbols (i + 1) rest) (defined_at m k s)) a (known_from (i + 1) rest n o k s e f))
 
-later_stop : (f : ℕ → Symbol → Option ℕ) (k : ℕ) (s : Symbol) (rest : List Symbol) (a : ℕ) → IsStopBy f (k + 1) rest a → IsStopBy f k (s ∷ rest) a
-later_stop f k s rest a h =
-    let e : k + suc h.index ≡ (k + 1) + h.index = omega arith in
-    record { index = suc h.index; symbol = h.symbol; there = h.there; stop = ap (λ (n : ℕ). f n h.symbol) e ∙ h.stop }
+pub known_there : (objects : List ObjectParts) (i : ℕ) (o : ObjectParts) (k : ℕ) (s : Symbol) → slice_get objects i ≡ Some o → slice_get o.symbols k ≡ Some s → Contains (all_symbols 0 objects) (defined_at i k s)
+known_there objects i o k s e f =
+    let a : 0 + i ≡ i = omega arith in
+    subst (λ (n : ℕ). Contains (all_symbols 0 objects) (defined_at n k s)) a (known_from 0 objects i o k s e f)
 
-pub stop_of : (f : ℕ → Symbol → Option ℕ) (k : ℕ) (xs : List Symbol) (a : ℕ) → Contains (stops_by f k xs) a → IsStopBy f k xs a
-stop_of f k [] a h = absurd (contains_none a h)
-stop_of f k (s ∷ rest) a h = go (f k s) refl h (stop_of f (k + 1) rest a)
+-- They stand in order.
+numbered_rise : (i k : ℕ) (xs : List Symbol) → InOrder StandsBefore (numbered i k xs)
+numbered_rise i k [] = none
+numbered_rise i k (s ∷ rest) =
+    before (defined_at i k s) (numbered i (k + 1) rest) (λ d c. let h = numbered_is i (k + 1) rest d c in let a = h.above in inr (sym h.object, omega arith)) (numbered_rise i (k + 1) rest)
+
+append_rise : (xs ys : List Defined) → InOrder StandsBefore xs → InOrder StandsBefore ys → ((d e : Defined) → Contains xs d → Contains ys e → d.object < e.object) → InOrder StandsBefore (xs ++ ys)
+append_rise _ ys none h far = h
+append_rise _ ys (before x xs b more) h far =
+    before x (xs ++ ys) (λ y c. elim (Contains-append_cases xs ys y c) [ inl l ↦ b y l | inr r ↦ inl (far x y (contains_here x xs) r) ]) (append_rise xs ys more h (λ d e c f. far d e (contains_later x xs d c) f))
+
+pub symbols_rise : (i : ℕ) (objects : List ObjectParts) → InOrder StandsBefore (all_symbols i objects)
+symbols_rise i [] = none
+symbols_rise i (o ∷ rest) =
+    append_rise (numbered i 0 o.symbols) (all_symbols (i + 1) rest) (numbered_rise i 0 o.symbols) (symbols_rise (i + 1) rest)
+    (λ d e c f. let a = (numbered_is i 0 o.symbols d c).object in let b = (known_is (i + 1) rest e f).above in omega arith)
+
+-- a symbol's address is one of 32 bits
+inside : (s : Symbol) (h : Section) → is_inside s h ≡ true → s.value ≤ h.size + 1
+inside s h e = go (s.kind == func) (leb-true _ _ e)
   where
-    go : (o : Option ℕ) → f k s ≡ o → Contains (option_to_list o ++ stops_by f (k + 1) rest) a → (Contains (stops_by f (k + 1) rest) a → IsStopBy f (k + 1) rest a) → IsStopBy f k (s ∷ rest) a
-    go None e h more = later_stop f k s rest a (more h)
-    go (Some b) e h more =
-        elim (contains_cases b (stops_by f (k + 1) rest) a h) [
-          | inl same ↦
-              let z : k + 0 ≡ k = omega arith in
-              record { index = zero; symbol = s; there = refl; stop = ap (λ (n : ℕ). f n s) z ∙ e ∙ ap (λ (n : ℕ). Some n) same }
-          | inr r ↦ later_stop f k s rest a (more r)
-        ]
+    go : (b : Bool) → cond b (even s.value) s.value ≤ h.size → s.value ≤ h.size + 1
+    go true l = omega arith
+    go false l = omega arith
 
-pub has_stop : (f : ℕ → Symbol → Option ℕ) (k : ℕ) (xs : List Symbol) (i : ℕ) (s : Symbol) (a : ℕ) → slice_get xs i ≡ Some s → f (k + i) s ≡ Some a → Contains (stops_by f k xs) a
-has_stop f k [] i s a e h = absurd (none-some s e)
-has_stop f k (t ∷ rest) zero s a e h =
-    let z : k ≡ k + 0 = omega arith in
-    let same : f k t ≡ Some a = ap (λ (n : ℕ). f n t) z ∙ ap (f (k + 0)) (same_Some t s e) ∙ h in
-    subst (λ (o : Option ℕ). Contains (option_to_list o ++ stops_by f (k + 1) rest) a) (sym same) (contains_here a (stops_by f (k + 1) rest))
-has_stop f k (t ∷ rest) (suc i) s a e h =
-    let z : (k + 1) + i ≡ k + suc i = omega arith in
-    go (f k t) (has_stop f (k + 1) rest i s a e (ap (λ (n : ℕ). f n s) z ∙ h))
-  where
-    go : (o : Option ℕ) → Contains (stops_by f (k + 1) rest) a → Contains (option_to_list o ++ stops_by f (k + 1) rest) a
-    go None h = h
-    go (Some b) h = contains_later b (stops_by f (k + 1) rest) a h
+pub symbol_sound : (o : ObjectParts) (k : ℕ) (s : Symbol) → is_object o ≡ true → slice_get o.symbols k ≡ Some s → is_symbol o.sections s ≡ true
+symbol_sound o k s sound at =
+    let a = and_parts _ _ sound in
+    let b = and_parts _ _ a.0 in
+    let c = and_parts _ _ b.0 in
+    let d = and_parts _ _ c.0 in
+    all_at (is_symbol o.sections) o.symbols k s (and_parts _ _ d.0).1 at
+
+module _ (objects : List ObjectParts) (at : Placement) (sound : AreObjects objects) (fits : Fits objects at) where
+  pub part_low : (i j : ℕ) (p : Placed) → part_of (all_placed objects at) i j ≡ Some p → p.start + p.section.size ≤ 0x7FFFF000
+  part_low i j p e =
+      let h = part_is objects at i j p e in
+      let a = fits.code in
+      let b = fits.last in
+      elim (h.sort) [
+        | inl c ↦ let l = ends_inside (λ s. max 4 s.align) at.base _ (code_good objects sound) p c.0 in omega arith
+        | inr c ↦ let l = ends_inside (λ s. s.align) (at.base + at.room) _ (data_good objects sound) p c.0 in omega arith
+      ]
+
+  -- below 2^32; and, in a section in memory, low
+  pub low_home : (d : Defined) → Contains (all_symbols 0 objects) d → (j : ℕ) (p : Placed) → d.symbol.home ≡ home.Section j → part_of (all_placed objects at) d.object j ≡ Some p → p.start + d.symbol.value ≤ 0x7FFFF001
+  low_home d c j p e f =
+      let k = known_is 0 objects d c in
+      let z : d.object ≡ d.object - 0 = omega arith in
+      let there : slice_get objects d.object ≡ Some k.object = ap (slice_get objects) z ∙ k.there in
+      let s = symbol_sound k.object d.index d.symbol (all_at is_object objects d.object k.object sound there) k.symbol in
+      let h : has_home k.object.sections d.symbol (home.Section j) ≡ true = subst (λ (x : Home). has_home k.object.sections d.symbol x ≡ true) e (and_parts _ (has_home k.object.sections d.symbol d.symbol.home) s).1 in
+      let q = part_is objects at d.object j p f in
+      let same : q.object ≡ k.object = same_Some q.object k.object (sym q.there ∙ there) in
+      let section : slice_get k.object.sections j ≡ Some p.section = subst (λ (o : ObjectParts). slice_get o.sections j ≡ Some p.section) same q.section in
+      let i = inside d.symbol p.section (subst (λ (o : Option Section). is_at_home k.object.sections d.symbol o ≡ true) section h) in
+      let l = part_low d.object j p f in
+      omega arith
+
+  pub low_address : (d : Defined) → Contains (all_symbols 0 objects) d → d.symbol.value < 2 ^ 32 → home_start (all_placed objects at) d.object d.symbol.home + d.symbol.value < 2 ^ 32
+  low_address d c small = go d.symbol.home refl
+    where
+      section : (j : ℕ) → d.symbol.home ≡ home.Section j → (p : Option Placed) → part_of (all_placed objects at) d.object j ≡ p → start_of p + d.symbol.value < 2 ^ 32
+      section j e None f = omega arith
+      section j e (Some p) f = let l = low_home d c j p e f in omega arith
+
+      go : (h : Home) → d.symbol.home ≡ h → home_start (all_placed objects at) d.object h + d.symbol.value < 2 ^ 32
+      go home.Undefined e = omega arith
+      go home.Absolute e = omega arith
+      go (home.Section j) e = section j e (part_of (all_placed objects at) d.object j) refl
+
+  pub lot_low : (lots items : List Lot) → map placed_of lots ≡ code_parts objects at → items ≡ lots → (i : ℕ) (x : Lot) → i < length items → x ≡ get_or items i x → x.start + x.section.now.size ≤ 0x7FFFF000
+  lot_low lots items same e i x l is =
+      let there : Contains (map placed_of items) (placed_of x) = map_contains placed_of items x (has_at items i x l is) in
+      let c : Contains (code_parts objects at) (placed_of x) = subst (λ (ps : List Placed). Contains ps (placed_of x)) (ap (map placed_of) e ∙ same) there in
+      let h = ends_inside (λ s. max 4 s.align) at.base _ (code_good objects sound) (placed_of x) c in
+      let a = fits.code in
+      let b = fits.last in
+      omega arith

@@ -1,4 +1,7 @@
+pub mod Entries
+pub mod Known
+pub mod Layout
+pub mod Lots
 pub mod Made
 pub mod Placing
-pub mod Refusals
-pub mod Symbols
+pub mod Stops

@@ -1,14 +1,16 @@
 //! The functions that can be called by name.
 
-ghost use Rattle.std.specs.Prelude.{◌≡◌, ◌++◌, ℕ, List, All, IfOk, OnOk};
-ghost use Rattle.std.specs.List.{list_any};
-ghost use Rattle.elf_model.specs.Fields.{same_name};
-ghost use Rattle.flat_link.specs.Symbols.{is_global, is_named, function_place, entry_at, entry_list, IsLow};
+ghost use Rattle.std.specs.Prelude.{◌≡◌, map, Contains, IfOk};
+ghost use Rattle.thumb_table.specs.Layouts.{Placed};
+ghost use Rattle.thumb_table.specs.Names.{all_symbols, resolved as resolved_name, is_standing as stands_for, entries_of as entries_in};
+ghost use Rattle.flat_link.specs.Known.{defined_of, AreNames};
+ghost use Rattle.flat_link.specs.Layout.{IsLayout, parts_in};
 
-use crate::names::is_meant;
-use crate::stops::function_place;
-use elf_model::{Name, Symbol};
-use indexmap::IndexSet;
+use crate::known::Known;
+use crate::layout::Layout;
+use crate::names::{Names, resolved};
+use crate::symbols::{address_of, is_function};
+use elf_model::Name;
 use std::alloc::{AllocError, Global};
 use thumb_table::NamedEntry;
 
@@ -21,40 +23,35 @@ fn entry(alloc: Global, name: &Name, address: u32) -> Result<NamedEntry, AllocEr
     })
 }
 
-/// Adds the entry of a symbol, if it is a function in code.
-fn push_function(
-    alloc: Global,
-    entries: &mut Vec<NamedEntry>,
-    starts: &[Option<u32>],
-    s: &Symbol,
-) -> Result<(), AllocError>
-    requires { IsLow starts.now s.now }
-    ensures { OnOk result (entries.new.items ≡ entries.old.items ++ entry_at s.now (function_place starts.now s.now)) }
+/// Whether a symbol is what its name stands for.
+fn is_standing<'a>(names: &Names<'a>, known: &Known<'a>) -> bool
+    requires { AreNames names.now }
+    ensures { result ≡ stands_for names.now.objects.now (defined_of known.now) (resolved_name names.now.objects.now known.now.symbol.now.name) }
 {
-    match function_place(starts, s) {
-        Some(address) => {
-            entries.push(entry(alloc, &s.name, address + 1)?)?;
-            Ok(())
-        }
-        None => Ok(()),
+    match resolved(names, known.symbol.name.bytes()) {
+        None => false,
+        Some(found) => known.object == found.object && known.index == found.index,
     }
 }
 
-/// The entries of an object with these symbols, where `names` has the names of its global definitions.
+/// The entries of objects: each function in code that its name stands for.
 pub(crate) fn entries_of<'a>(
     alloc: Global,
-    names: &mut IndexSet<&'a [u8]>,
-    symbols: &'a [Symbol],
-    starts: &[Option<u32>],
+    names: &Names<'a>,
+    layout: &Layout<'a>,
+    all: &[Known<'a>],
 ) -> Result<Vec<NamedEntry>, AllocError>
-    requires known { (n : List ℕ) → list_any (λ k. same_name n k.now) names.old.keys ≡ is_named is_global n symbols.now }
-    requires low { All (λ s. IsLow starts.now s) symbols.now }
-    ensures { IfOk result (λ entries. entries.items ≡ entry_list starts.now symbols.now 0 symbols.now) }
+    requires names { AreNames names.now }
+    requires layout { IsLayout layout.now }
+    requires same { names.now.objects.now ≡ layout.now.objects.now }
+    requires all { map defined_of all.now ≡ all_symbols 0 layout.now.objects.now }
+    ensures { IfOk result (λ entries. entries.items ≡ entries_in layout.now.objects.now (parts_in layout.now)) }
 {
     let mut entries = Vec::new(alloc);
-    for s in symbols {
-        if is_meant(names, s)? {
-            push_function(alloc, &mut entries, starts, s)?;
+    for known in all {
+        if is_function(layout, known) && is_standing(names, known) {
+            let address = address_of(layout, known);
+            entries.push(entry(alloc, &known.symbol.name, address - address % 2 + 1)?)?;
         }
     }
     Ok(entries)

@@ -1,11 +1,16 @@
 //! The linker: it places the sections of objects and makes an image of them.
 #![tactic(auto)]
 
+mod bytes;
 mod entries;
+mod known;
+mod layout;
 mod linker;
+mod lots;
 mod names;
-mod places;
-mod sections;
+mod seconds;
+mod sorts;
 mod stops;
+mod symbols;
 
 pub use linker::link;

@@ -139,6 +139,90 @@ fn refuses_what_cannot_be_linked(rt: HostRuntime) {
     }
 }
 
+// A weak `f` and a global `g`, with one byte of data.
+fn caller(alloc: Global) -> Result<Option<Object>, AllocError> {
+    let sections = vec![in alloc;
+        section(alloc, b".text", 6, 2, &[5, 32, 112, 71, 112, 71])?,
+        section(alloc, b".data", 3, 1, &[9])?,
+    ]?;
+    let rows: [Row; 3] = [
+        (b"$t", 0, 0, 0, TEXT),
+        (b"f", 1, 2, 2, TEXT),
+        (b"g", 5, 1, 2, TEXT),
+    ];
+    object_of(alloc, sections, &rows, &[])
+}
+
+// A global `f`, and `g` weak or global, with four bytes of data.
+fn callee(alloc: Global, g: u8) -> Result<Option<Object>, AllocError> {
+    let sections = vec![in alloc;
+        section(alloc, b".text", 6, 8, &[7, 32, 112, 71])?,
+        section(alloc, b".data", 3, 4, &[1, 2, 3, 4])?,
+    ]?;
+    let rows: [Row; 3] = [
+        (b"$t", 0, 0, 0, TEXT),
+        (b"f", 1, 1, 2, TEXT),
+        (b"g", 3, g, 2, TEXT),
+    ];
+    object_of(alloc, sections, &rows, &[])
+}
+
+fn both_linked(rt: &impl Abort, alloc: Global, g: u8) -> Result<Image, Deny> {
+    let at = Placement {
+        base: 0x8000,
+        room: 64,
+        stack: 8,
+    };
+    let first = caller(alloc).expect(rt, "memory").expect(rt, "an object");
+    let second = callee(alloc, g)
+        .expect(rt, "memory")
+        .expect(rt, "an object");
+    assert!(rt; within(&first, &Limit::ANY));
+    assert!(rt; first.relocs().is_empty());
+    assert!(rt; within(&second, &Limit::ANY));
+    assert!(rt; second.relocs().is_empty());
+    let objects = [first, second];
+    link(alloc, &objects, &at)
+}
+
+#[test]
+fn links_two_objects(rt: HostRuntime) {
+    let image = both_linked(&rt, rt.alloc(), 2).expect(&rt, "an image");
+    assert_eq!(rt;
+        image.code().bytes(),
+        [5, 32, 112, 71, 112, 71, 0, 0, 7, 32, 112, 71].as_slice()
+    );
+    assert_eq!(rt;
+        image.code().stops(),
+        [0x8000, 0x8004, 0x8006, 0x8008, 0x800A, 0x800C].as_slice()
+    );
+    let bytes: [u8; 8] = [9, 0, 0, 0, 1, 2, 3, 4];
+    assert_eq!(rt; image.memory().cells().len(), 8);
+    for (cell, byte) in image.memory().cells().iter().zip(&bytes) {
+        assert_eq!(rt; cell.byte(), *byte);
+    }
+    assert_eq!(rt; image.entry(b"f"), Some(0x8009));
+    assert_eq!(rt; image.entry(b"g"), Some(0x8005));
+    assert_eq!(rt; image.entries().len(), 2);
+    let places = [(0, 0x8000), (1, 0x8008), (0, 0x8040), (1, 0x8044)];
+    assert_eq!(rt; image.parts().len(), 4);
+    for (part, place) in image.parts().iter().zip(&places) {
+        assert_eq!(rt; (part.object, part.start), *place);
+    }
+}
+
+#[test]
+fn refuses_a_name_of_two_objects(rt: HostRuntime) {
+    let refused = both_linked(&rt, rt.alloc(), 1).expect_err(&rt, "twice");
+    let spot = Spot {
+        refusal: Refusal::Duplicate { symbol: 2 },
+        file: 1,
+        section: 0,
+        offset: 0,
+    };
+    assert_eq!(rt; refused, Deny::Refused(spot));
+}
+
 fn is_placement(at: Placement) -> bool
     ensures { IsTrue result → IsPlacement at }
 {

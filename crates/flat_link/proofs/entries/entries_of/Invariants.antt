@@ -1,12 +1,9 @@
-use Rattle.std.proofs.Common.{◌≡◌, ℕ, List, ◌++◌, drop, take}
-use Rattle.std.specs.Prelude.{◌||◌}
-use Rattle.std.specs.List.{list_any}
-use Rattle.elf_model.specs.Fields.{same_name}
-use Rattle.flat_link.specs.Symbols.{is_weak, is_global, is_named, entry_list}
+use Rattle.std.proofs.Common.{◌≡◌, ◌++◌, drop, map}
+use Rattle.flat_link.specs.Entries.{entries_among}
+use Rattle.flat_link.specs.Known.{defined_of}
+use Rattle.flat_link.specs.Layout.{parts_in}
 use Rattle.flat_link.proofs.entries.entries_of.Given as goal
 
-abbrev pub invariant-loop-s : goal.invariant-loop-s
-invariant-loop-s l = record {
-  known : (n : List ℕ) → list_any (λ k. same_name n k.now) l.names.keys ≡ (is_named is_weak n (take l.s-index l.symbols) || is_named is_global n l.symbols);
-  made : l.entries.items ++ entry_list l.starts l.symbols l.s-index (drop l.s-index l.symbols) ≡ entry_list l.starts l.symbols 0 l.symbols;
-}
+abbrev pub invariant-loop-known : goal.invariant-loop-known
+invariant-loop-known l =
+    l.entries.items ++ entries_among l.layout.objects.now (parts_in l.layout) (map defined_of (drop l.known-index l.all)) ≡ entries_among l.layout.objects.now (parts_in l.layout) (map defined_of l.all)

@@ -1,6 +1,8 @@
 use Rattle.std.proofs.Common.{◌≡◌, ◌++◌, drop}
-use Rattle.flat_link.specs.Symbols.{data_stops}
+use Rattle.flat_link.specs.Layout.{parts_in}
+use Rattle.flat_link.specs.Stops.{data_stops}
 use Rattle.flat_link.proofs.stops.push_data.Given as goal
 
-abbrev pub invariant-loop-s : goal.invariant-loop-s
-invariant-loop-s l = l.stops.items ++ data_stops l.starts l.symbols (drop l.s-index l.symbols) ≡ l.fn.stops.items ++ data_stops l.starts l.symbols l.symbols
+abbrev pub invariant-loop-k : goal.invariant-loop-k
+invariant-loop-k l =
+    l.stops.items ++ data_stops (parts_in l.layout) l.object l.symbols (drop l.k l.symbols) ≡ l.fn.stops.items ++ data_stops (parts_in l.layout) l.object l.symbols l.symbols

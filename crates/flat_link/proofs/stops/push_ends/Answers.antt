@@ -1,24 +1,8 @@
-use Rattle.std.proofs.Common.{◌∙◌, sym, arith}
-use Rattle.elf_model.specs.Objects.{is_section}
-use Rattle.flat_link.specs.declared.places.Sort.TheVariants.{Code}
-use Rattle.flat_link.proofs.SectionFacts.{each}
-use Rattle.flat_link.proofs.Walks.{within}
+use Rattle.std.proofs.Common.{arith}
+use Rattle.flat_link.proofs.SymbolFacts.{lot_low}
 use Rattle.flat_link.proofs.stops.push_ends.Goals as goal
 
-pub start_of-requires-clause-section : goal.start_of-requires-clause-section
-start_of-requires-clause-section c = each is_section c.args.sections.now c.loop-s.s-index c.s-item.result c.requires.sections (omega arith) c.s-item.is
-
-pub start_of-requires-clause-low : goal.start_of-requires-clause-low
-start_of-requires-clause-low c =
-    let w = within Code c.loop-s.end c.args.sections.now c.loop-s.s-index c.s-item.result _ c.requires.sections (omega arith) c.s-item.is c.loop-s.invariant.left (sym c.is_code.ensures ∙ c.if-is_code.true) in
-    omega (arith, w.0, c.requires.low)
-
-pub overflow_add-end : goal.overflow_add-end
-overflow_add-end c =
-    let w = within Code c.loop-s.end c.args.sections.now c.loop-s.s-index c.s-item.result _ c.requires.sections (omega arith) c.s-item.is c.loop-s.invariant.left (sym c.is_code.ensures ∙ c.if-is_code.true) in
-    omega (arith, w.1, c.requires.low, c.start_of.ensures.placed)
-
-pub overflow_cast-end-then-is_code : goal.overflow_cast-end-then-is_code
-overflow_cast-end-then-is_code c =
-    let w = within Code c.loop-s.end c.args.sections.now c.loop-s.s-index c.s-item.result _ c.requires.sections (omega arith) c.s-item.is c.loop-s.invariant.left (sym c.is_code.ensures ∙ c.if-is_code.true) in
-    omega (arith, w.1, c.requires.low, c.start_of.ensures.placed)
+pub overflow_add-l : goal.overflow_add-l
+overflow_add-l c =
+    let l = c.args.layout.now in
+    omega (arith, lot_low l.objects.now l.at c.requires.sound c.requires.fits l.code.items c.as_slice-l-items.result.now c.requires.code c.as_slice-l-items.ensures.value c.loop-l.l-index c.l-item.result (omega arith) c.l-item.is)
