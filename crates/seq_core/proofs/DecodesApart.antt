@@ -7,7 +7,7 @@ use Rattle.thumb_instr.specs.Patterns.{decoded}
 use Rattle.thumb_instr.specs.HalfRows.{half_rows}
 use Rattle.thumb_instr.specs.FullRows.{full_rows}
 use Rattle.thumb_instr.specs.Rows.{is_wide, decode}
-use Rattle.seq_core.specs.Accepted.{DecodesApart, DecodesMoveByBytes, DecodesTestLow}
+use Rattle.seq_core.specs.Accepted.{DecodesApart, DecodesLoadSeveral, DecodesMoveByBytes, DecodesReach, DecodesTestLow, DecodesUseStack}
 use Rattle.seq_core.proofs.RowsApart.{IsTold, tells, told, decoded_tells}
 use Rattle.seq_core.proofs.HalvesApart.{half_apart}
 use Rattle.seq_core.proofs.FullsApart.{full_apart}
@@ -25,5 +25,14 @@ decodes_apart place first second i e = let t = told_of place first second i e in
 pub decodes_by_bytes : DecodesMoveByBytes
 decodes_by_bytes place first second i e = (told_of place first second i e).2
 
+pub decodes_use_stack : DecodesUseStack
+decodes_use_stack place first second i e = let t = told_of place first second i e in (t.3, t.4)
+
+pub decodes_load_several : DecodesLoadSeveral
+decodes_load_several place first second i e = (told_of place first second i e).5
+
+pub decodes_reach : DecodesReach
+decodes_reach place first second i e = (told_of place first second i e).6
+
 pub decodes_test_low : DecodesTestLow
-decodes_test_low place first second i e = (told_of place first second i e).3
+decodes_test_low place first second i e = (told_of place first second i e).7

@@ -12,11 +12,12 @@ use Rattle.thumb_instr.specs.declared.operands.Operand.TheVariants.{Imm, Reg}
 use Rattle.thumb_instr.specs.declared.places.Place.{Place}
 use Rattle.thumb_instr.specs.declared.places.PairIndex.{PairIndex}
 use Rattle.thumb_instr.specs.declared.refusals.ItPlace.{ItPlace}
+use Rattle.thumb_instr.specs.Operands.{has}
 use Rattle.thumb_instr.specs.Sets.{moves_base, moves_pair_base}
 use Rattle.thumb_instr.specs.Patterns.{Answer}
 use Rattle.thumb_instr.specs.DataRows.{names, has_odd_sp, alu_row, move_row, test_row, or_test, or_move, data_processing}
 use Rattle.thumb_instr.specs.FullRows.{many, two_words, exclusive, dual, wide_row, extract, insert, on_condition_branch, on_access, access_row, by_byte, by_register, product, full_rows}
-use Rattle.seq_core.specs.Accepted.{place_names_stack, place_moves_by_byte}
+use Rattle.seq_core.specs.Accepted.{place_names_stack, place_moves_by_byte, place_reaches}
 use Rattle.std.specs.Prelude.{nat_lt}
 use Rattle.seq_core.proofs.RowsApart.{AllApart, ◌&◌, tells, if_tells}
 
@@ -75,9 +76,9 @@ dual_tells : (p u w l n t s i : ℕ) → tells (dual p u w l n t s i) ≡ true
 unfolding dual
 dual_tells p u w l n t s i = search (two_words_tells, exclusive_tells, if_tells)
 
-access_row_tells : (op : AccessOp) (t n : ℕ) (place : Place) (back : Bool) → moves_base place ≡ back → place_names_stack place ≡ false → place_moves_by_byte place ≡ true → tells (access_row op t n place back) ≡ true
+access_row_tells : (op : AccessOp) (t n : ℕ) (place : Place) (back : Bool) → moves_base place ≡ back → place_names_stack place ≡ false → place_moves_by_byte place ≡ true → place_reaches place ≡ true → tells (access_row op t n place back) ≡ true
 unfolding access_row
-access_row_tells op t n place back e f g = grind (arith, nat_tests)
+access_row_tells op t n place back e f g r = grind (arith, nat_tests)
 
 by_byte_tells : (p u w : ℕ) (op : AccessOp) (n t i : ℕ) → i < 2 ^ 8 → tells (by_byte p u w op n t i) ≡ true
 unfolding by_byte
@@ -114,6 +115,11 @@ product_tells : (n a d m : ℕ) → tells (product n a d m) ≡ true
 unfolding product
 product_tells n a d m = grind (arith, nat_tests)
 
+-- pc alone
+lacks_link : has 0 14 ≡ false
+unfolding has
+lacks_link = refl
+
 pub full_apart : (place : ItPlace) → AllApart (full_rows place)
 unfolding full_rows
 full_apart place =
@@ -141,8 +147,8 @@ full_apart place =
     & (λ i i-fits. grind (arith, nat_tests, many_tells, dual_tells, data_tells, wide_row_tells, extract_tells, insert_tells, branch_tells, on_access_tells, by_byte_tells, by_register_tells, access_row_tells, product_tells))
     & (λ s s-fits c c-fits i6 i6-fits j j-fits k k-fits i11 i11-fits. grind (arith, nat_tests, many_tells, dual_tells, data_tells, wide_row_tells, extract_tells, insert_tells, branch_tells, on_access_tells, by_byte_tells, by_register_tells, access_row_tells, product_tells))
     & (λ u u-fits t t-fits i i-fits. grind (arith, nat_tests, many_tells, dual_tells, data_tells, wide_row_tells, extract_tells, insert_tells, branch_tells, on_access_tells, by_byte_tells, by_register_tells, access_row_tells, product_tells))
-    & (grind (arith, nat_tests, many_tells, dual_tells, data_tells, wide_row_tells, extract_tells, insert_tells, branch_tells, on_access_tells, by_byte_tells, by_register_tells, access_row_tells, product_tells))
-    & (λ g g-fits z z-fits l l-fits n n-fits t t-fits i i-fits. grind (arith, nat_tests, many_tells, dual_tells, data_tells, wide_row_tells, extract_tells, insert_tells, branch_tells, on_access_tells, by_byte_tells, by_register_tells, access_row_tells, product_tells))
+    & (let alone = lacks_link in grind (arith, nat_tests, many_tells, dual_tells, data_tells, wide_row_tells, extract_tells, insert_tells, branch_tells, on_access_tells, by_byte_tells, by_register_tells, access_row_tells, product_tells))
+    & (λ g g-fits z z-fits l l-fits n n-fits t t-fits i i-fits. let far : nat_lt i 4096 ≡ true = grind (arith, nat_tests) in grind (arith, nat_tests, many_tells, dual_tells, data_tells, wide_row_tells, extract_tells, insert_tells, branch_tells, on_access_tells, by_byte_tells, by_register_tells, access_row_tells, product_tells))
     & (λ g g-fits z z-fits l l-fits n n-fits t t-fits p p-fits u u-fits w w-fits i i-fits. grind (arith, nat_tests, many_tells, dual_tells, data_tells, wide_row_tells, extract_tells, insert_tells, branch_tells, on_access_tells, by_byte_tells, by_register_tells, access_row_tells, product_tells))
     & (λ g g-fits z z-fits l l-fits n n-fits t t-fits shift shift-fits m m-fits. grind (arith, nat_tests, many_tells, dual_tells, data_tells, wide_row_tells, extract_tells, insert_tells, branch_tells, on_access_tells, by_byte_tells, by_register_tells, access_row_tells, product_tells))
     & (λ k k-fits s s-fits n n-fits d d-fits m m-fits. grind (arith, nat_tests, many_tells, dual_tells, data_tells, wide_row_tells, extract_tells, insert_tells, branch_tells, on_access_tells, by_byte_tells, by_register_tells, access_row_tells, product_tells))

@@ -1,10 +1,16 @@
 -- What the rows of one halfword give of bases and of sp.
-use Rattle.std.proofs.Common.{arith}
+use Rattle.std.proofs.Common.{◌≡◌, ◌<◌, ◌/◌, ◌^◌, ℕ, false, refl, arith}
 use Rattle.std.proofs.lemmas.Bool.Decides.{nat_tests}
 use Rattle.thumb_instr.specs.declared.refusals.ItPlace.{ItPlace}
+use Rattle.thumb_instr.specs.Operands.{has}
 use Rattle.thumb_instr.specs.DataRows.{is_copy}
 use Rattle.thumb_instr.specs.HalfRows.{half_rows}
 use Rattle.seq_core.proofs.RowsApart.{AllApart, ◌&◌}
+
+-- a list of eight registers has no lr
+lacks_link : (list : ℕ) → list < 2 ^ 8 → has list 14 ≡ false
+unfolding has
+lacks_link list low = let none : list / 2 ^ 14 ≡ 0 = omega arith in rw none refl
 
 pub half_apart : (place : ItPlace) → AllApart (half_rows place)
 unfolding half_rows is_copy
@@ -68,7 +74,7 @@ half_apart place =
     & (λ m m-fits d d-fits. grind (arith, nat_tests))
     & (λ m m-fits d d-fits. grind (arith, nat_tests))
     & (λ lr lr-fits list list-fits. grind (arith, nat_tests))
-    & (λ pc pc-fits list list-fits. grind (arith, nat_tests))
+    & (λ pc pc-fits list list-fits. let low = lacks_link list list-fits in grind (arith, nat_tests))
     & (λ m m-fits d d-fits. grind (arith, nat_tests))
     & (λ m m-fits d d-fits. grind (arith, nat_tests))
     & (λ m m-fits d d-fits. grind (arith, nat_tests))

@@ -34,6 +34,7 @@ pub mod Sums
 pub mod ClassesApart
 pub mod ClassesDecided
 pub mod ClassesCover
+pub mod ClassesTell
 pub mod NeedsFew
 pub mod RowsApart
 pub mod HalvesApart
@@ -48,3 +49,7 @@ pub mod MovesCoded
 pub mod Built
 pub mod Denoted
 pub mod Doing
+pub mod Plain
+pub mod Made
+pub mod StepsCoded
+pub mod CopiedDecodes

@@ -5,11 +5,12 @@ use Rattle.std.proofs.lemmas.Nat.{pow_pos}
 use Rattle.std.specs.Prelude.{⊤, ◌&&◌, not, if◌then◌else◌}
 use Rattle.thumb_instr.specs.declared.instructions.Instr.{Instr}
 use Rattle.thumb_instr.specs.Patterns.{Bits, Fixed, Field, Made, Row, Answer, cut, fits, filled_in, decoded}
-use Rattle.seq_core.specs.Accepted.{keeps_base_apart, misplaces_stack, moves_by_byte, tests_low_register}
+use Rattle.seq_core.specs.Accepted.{keeps_base_apart, misplaces_stack, moves_by_byte, loads_pc_by_pop, takes_stack_once, loads_several, reaches, tests_low_register}
 
--- An instruction has its base apart and moves it by a byte, has sp where it may stand, and tests a low register.
+-- An instruction has its base apart and moves it by a byte, has sp where it may stand, loads pc by a pop, and two
+-- registers where it is to load several, reaches as far as its offset does, and tests a low register.
 abbrev pub tells : Answer → Bool
-tells (Ok i) = tests_low_register i && (keeps_base_apart i && (not (misplaces_stack i) && moves_by_byte i))
+tells (Ok i) = tests_low_register i && (keeps_base_apart i && (not (misplaces_stack i) && (moves_by_byte i && (loads_pc_by_pop i && (takes_stack_once i && (loads_several i && reaches i))))))
 tells (Err k) = true
 
 abbrev pub Fill : (ps : List Bits) → Made ps → Type 0
@@ -44,15 +45,19 @@ decoded_tells size (r ∷ rows) h g = if_tells (fits r.pattern size h) _ _ (λ _
 
 -- what an instruction's answer tells
 abbrev pub IsTold : Instr → Type 0
-IsTold i = (keeps_base_apart i ≡ true) × (misplaces_stack i ≡ false) × (moves_by_byte i ≡ true) × (tests_low_register i ≡ true)
+IsTold i = (keeps_base_apart i ≡ true) × (misplaces_stack i ≡ false) × (moves_by_byte i ≡ true) × (loads_pc_by_pop i ≡ true) × (takes_stack_once i ≡ true) × (loads_several i ≡ true) × (reaches i ≡ true) × (tests_low_register i ≡ true)
 
 pub told : (i : Instr) (a : Answer) → a ≡ Ok i → tells a ≡ true → IsTold i
-told i (Ok j) e t = let same : j ≡ i = cc in subst IsTold same (all (keeps_base_apart j) (misplaces_stack j) (moves_by_byte j) (tests_low_register j) t)
+told i (Ok j) e t = let same : j ≡ i = cc in subst IsTold same (all (keeps_base_apart j) (misplaces_stack j) (moves_by_byte j) (loads_pc_by_pop j) (takes_stack_once j) (loads_several j) (reaches j) (tests_low_register j) t)
   where
-    all : (a b c d : Bool) → (d && (a && (not b && c))) ≡ true → (a ≡ true) × (b ≡ false) × (c ≡ true) × (d ≡ true)
-    all true false true true t = (refl, refl, refl, refl)
-    all true false false true t = cc
-    all true true c true t = cc
-    all false b c true t = cc
-    all a b c false t = cc
+    all : (a b c d e f g h : Bool) → (h && (a && (not b && (c && (d && (e && (f && g))))))) ≡ true → (a ≡ true) × (b ≡ false) × (c ≡ true) × (d ≡ true) × (e ≡ true) × (f ≡ true) × (g ≡ true) × (h ≡ true)
+    all true false true true true true true true t = (refl, refl, refl, refl, refl, refl, refl, refl)
+    all true false true true true true false true t = cc
+    all true false true true true false g true t = cc
+    all true false true true false f g true t = cc
+    all true false true false e f g true t = cc
+    all true false false d e f g true t = cc
+    all true true c d e f g true t = cc
+    all false b c d e f g true t = cc
+    all a b c d e f g false t = cc
 told i (Err k) e t = cc

@@ -1,14 +1,14 @@
 -- Class LongSum: a product of 64 bits, added in two halves.
 use Rattle.std.proofs.Common.{◌≡◌, ◌≢◌, ℕ, ◌+◌, ◌*◌, ◌/◌, ◌%◌, ◌^◌, ◌<◌, ◌≤◌, Bool, true, false, List, [], ◌∷◌, length, inl, Ok, Err, refl, sym, ap, ◌∙◌, subst, arith, ne_eqb, get_or, set, get_or-set_other, length-set}
-use Rattle.std.specs.Prelude.{◌==◌, ◌||◌, ◌&&◌, nat_le, nat_lt, if◌then◌else◌}
-use Rattle.std.proofs.lemmas.Bool.{eqb-true, ltb-true}
+use Rattle.std.specs.Prelude.{◌==◌, ◌||◌, ◌&&◌, nat_le}
+use Rattle.std.proofs.lemmas.Bool.{eqb-true}
 use Rattle.std.proofs.lemmas.Bool.Decides.{nat_tests}
 use Rattle.mark_word.specs.Words.{Word, plain}
 use Rattle.mark_word.specs.Formulas.{add_flags, number}
 use Rattle.thumb_instr.specs.declared.operations.AluOp.TheVariants as alu
 use Rattle.thumb_instr.specs.Sets.{reads_of, writes_of, sets_flags_of, is_flag}
 use Rattle.thumb_table.specs.declared.faults.FaultKind.TheVariants as fault
-use Rattle.thumb_table.specs.States.{Core, Outcome, Change, Falls, applied, read}
+use Rattle.thumb_table.specs.States.{Core, Change, Falls, applied, read}
 use Rattle.thumb_table.specs.Values.{wrapped, as_64, summed, long_product}
 use Rattle.thumb_table.specs.Effects.{change, value, writing, two_words, with_flags}
 use Rattle.thumb_table.specs.Effects as effects
@@ -26,10 +26,9 @@ use Rattle.seq_core.proofs.Through.{moving_apart, move_other}
 use Rattle.seq_core.proofs.Base.{even_done, low_even}
 use Rattle.seq_core.specs.Sums.{sum_of, LongSumCarries}
 use Rattle.seq_core.proofs.Products.{product, below_sp, product_done, product_apart, not_same, other}
-use Rattle.seq_core.proofs.Back.{stays_small}
 
--- THE SUM IN HALVES
-low_half : (p hi lo : ℕ) → wrapped ((p + (hi * 2 ^ 32 + lo)) % 2 ^ 64) ≡ (lo + wrapped p + 0) % 2 ^ 32
+-- THE SUM IN HALVES, of whatever numbers
+low_half : (p hi lo : ℕ) → wrapped ((p + (hi * 2 ^ 32 + wrapped lo)) % 2 ^ 64) ≡ (lo + wrapped p + 0) % 2 ^ 32
 low_half p hi lo = omega arith
 
 at_least : (a b : ℕ) → nat_le a b ≡ true → a ≤ b
@@ -38,16 +37,19 @@ at_least a b e = grind (arith, nat_tests)
 below : (a b : ℕ) → nat_le a b ≡ false → b < a
 below a b e = grind (arith, nat_tests)
 
-high_half : (p hi lo : ℕ) → lo < 2 ^ 32 → (p + (hi * 2 ^ 32 + lo)) % 2 ^ 64 / 2 ^ 32 ≡ (hi + p / 2 ^ 32 + number (nat_le (2 ^ 32) (lo + wrapped p + 0))) % 2 ^ 32
-high_half p hi lo lt = elim (nat_le (2 ^ 32) (lo + wrapped p + 0)) as (λ b. nat_le (2 ^ 32) (lo + wrapped p + 0) ≡ b → (p + (hi * 2 ^ 32 + lo)) % 2 ^ 64 / 2 ^ 32 ≡ (hi + p / 2 ^ 32 + number b) % 2 ^ 32) [
-  | true ↦ λ e. carried (at_least (2 ^ 32) (lo + wrapped p + 0) e)
-  | false ↦ λ e. plainly (below (2 ^ 32) (lo + wrapped p + 0) e)
+abbrev carries : ℕ → ℕ → Bool
+carries p lo = nat_le (2 ^ 32) (wrapped lo + wrapped (wrapped p) + 0)
+
+high_half : (p hi lo : ℕ) → (p + (hi * 2 ^ 32 + wrapped lo)) % 2 ^ 64 / 2 ^ 32 ≡ (hi + p / 2 ^ 32 + number (carries p lo)) % 2 ^ 32
+high_half p hi lo = elim (carries p lo) as (λ b. carries p lo ≡ b → (p + (hi * 2 ^ 32 + wrapped lo)) % 2 ^ 64 / 2 ^ 32 ≡ (hi + p / 2 ^ 32 + number b) % 2 ^ 32) [
+  | true ↦ λ e. carried (at_least (2 ^ 32) (wrapped lo + wrapped (wrapped p) + 0) e)
+  | false ↦ λ e. plainly (below (2 ^ 32) (wrapped lo + wrapped (wrapped p) + 0) e)
 ] refl
   where
-    carried : 2 ^ 32 ≤ lo + wrapped p + 0 → (p + (hi * 2 ^ 32 + lo)) % 2 ^ 64 / 2 ^ 32 ≡ (hi + p / 2 ^ 32 + 1) % 2 ^ 32
+    carried : 2 ^ 32 ≤ wrapped lo + wrapped (wrapped p) + 0 → (p + (hi * 2 ^ 32 + wrapped lo)) % 2 ^ 64 / 2 ^ 32 ≡ (hi + p / 2 ^ 32 + 1) % 2 ^ 32
     carried le = omega arith
 
-    plainly : lo + wrapped p + 0 < 2 ^ 32 → (p + (hi * 2 ^ 32 + lo)) % 2 ^ 64 / 2 ^ 32 ≡ (hi + p / 2 ^ 32 + 0) % 2 ^ 32
+    plainly : wrapped lo + wrapped (wrapped p) + 0 < 2 ^ 32 → (p + (hi * 2 ^ 32 + wrapped lo)) % 2 ^ 64 / 2 ^ 32 ≡ (hi + p / 2 ^ 32 + 0) % 2 ^ 32
     plainly lt = omega arith
 
 -- the sum
@@ -130,26 +132,14 @@ lost false true w f e = absurd cc
 lost false false true f e = absurd cc
 lost false false false f e = (refl, refl, refl, e)
 
-asked_small : (b : Bool) (o : Outcome) (h : Change) → (if b then o else Err fault.BadStack) ≡ Ok h → (b ≡ true) × (o ≡ Ok h)
-asked_small true o h e = (refl, e)
-asked_small false o h e = absurd cc
-
-asked_trap : (b : Bool) (o : Outcome) → (if b then o else Err fault.BadStack) ≡ Err fault.Trap → o ≡ Err fault.Trap
-asked_trap true o e = e
-asked_trap false o e = absurd cc
-
 pub long_sum_is_done : LongSumCarries
 long_sum_is_done is_signed a b c lo hi n m end f = record {
   acts = λ y h bg t asked.
-      let small = asked_small (nat_lt (value y lo) (2 ^ 32)) (done (long_product_to (sum_of is_signed) lo hi n m) y) h asked in
-      let made = small.1 in
-      let lt : value y lo < 2 ^ 32 = ltb-true (value y lo) (2 ^ 32) small.0 in
-      let same_lo : wrapped (value y lo) ≡ value y lo = stays_small (value y lo) lt in
       let p : ℕ = product is_signed y n m in
       let l : ℕ = value y lo in
       let u : ℕ = value y hi in
       let whole : ℕ = whole_sum is_signed y lo hi n m in
-      let is = whole_parts is_signed lo hi n m y h made in
+      let is = whole_parts is_signed lo hi n m y h asked in
       let r : List Word = y.regs in
       -- the product
       let t1 = twice_settles (long_product_to (product_of is_signed) a b n m) no_ends y (two_words a b p) (on is_signed) (product_apart is_signed a b n m (f.a_free.2) (f.a_free.3) (f.b_free.2) (f.b_free.3)) bg.clear (product_done is_signed a b n m y (below_sp a f.low_a) (below_sp b f.low_b)) in
@@ -165,7 +155,7 @@ long_sum_is_done is_signed a b c lo hi n m end f = record {
       let v1_b : value y1 b ≡ p / 2 ^ 32 = ap (λ w. w.bits) (read_set ya b (plain (p / 2 ^ 32)) in_b) in
       -- the low words
       let s : ℕ = (l + wrapped p + 0) % 2 ^ 32 in
-      let k : Bool = nat_le (2 ^ 32) (l + wrapped p + 0) in
+      let k : Bool = carries p l in
       let h2 : Change = low_change c l (wrapped p) in
       let f2 : done (register_sum alu.Add true c lo a) y1 ≡ Ok h2 = low_done c lo a y1 f.low_c ∙ ap (λ x. Ok (low_change c x (value y1 a))) v1_lo ∙ ap (λ x. Ok (low_change c l x)) v1_a in
       let t2 = twice_settles (register_sum alu.Add true c lo a) no_ends y1 h2 refl (low_apart c lo a f.c_free.0 f.ac f.lo_base (let x = f.low_a in omega arith)) t1.clear f2 in
@@ -195,9 +185,9 @@ long_sum_is_done is_signed a b c lo hi n m end f = record {
       let t5 = twice_settles (moving false hi a) no_ends y4 h5 refl (moving_apart false hi a f.low_a f.a_free.1) t4.clear f5 in
       let y5 : Core = applied h5 y4 in
       -- what it comes to
-      let summed_up : whole ≡ (p + (u * 2 ^ 32 + l)) % 2 ^ 64 = sum_is is_signed y lo hi n m ∙ ap (λ x. (p + (u * 2 ^ 32 + x)) % 2 ^ 64) same_lo in
+      let summed_up : whole ≡ (p + (u * 2 ^ 32 + wrapped l)) % 2 ^ 64 = sum_is is_signed y lo hi n m in
       let low : wrapped whole ≡ s = ap wrapped summed_up ∙ low_half p u l in
-      let high : whole / 2 ^ 32 ≡ d = ap (λ x. x / 2 ^ 32) summed_up ∙ high_half p u l lt in
+      let high : whole / 2 ^ 32 ≡ d = ap (λ x. x / 2 ^ 32) summed_up ∙ high_half p u l in
       let x : Core = applied (two_words lo hi whole) y in
       let regs_x : x.regs ≡ set (set r lo (plain s)) hi (plain d) = ap (λ v. set (set r lo (plain v)) hi (plain (whole / 2 ^ 32))) low ∙ ap (λ v. set (set r lo (plain s)) hi (plain v)) high in
       let same : SameBut (λ j. (j == a) || ((j == b) || ((j == c) || is_flag j))) x y5 = record {
@@ -221,7 +211,7 @@ long_sum_is_done is_signed a b c lo hi n m end f = record {
       subst (λ (h : Change). (z : Core) × Reaches Settles end (done (long_product_to (product_of is_signed) a b n m) ∷ done (register_sum alu.Add true c lo a) ∷ done (register_sum alu.Adc false a hi b) ∷ done (moving false lo c) ∷ done (moving false hi a) ∷ []) y h.exit z × SameBut (λ j. (j == a) || ((j == b) || ((j == c) || is_flag j))) (applied h y) z) is
       (y5, record { out = Falls; chain = inl (y1, t1, inl (y2, t2, inl (y3, t3, inl (y4, t4, inl (y5, t5, (refl, refl)))))); there = refl }, same);
   rests = λ y b t. absurd cc;
-  halts = λ y b t e. absurd (whole_calm is_signed lo hi n m y (asked_trap (nat_lt (value y lo) (2 ^ 32)) (done (long_product_to (sum_of is_signed) lo hi n m) y) e));
+  halts = λ y b t e. absurd (whole_calm is_signed lo hi n m y e);
 }
   where
     on : (s : Bool) → goes_on_always (long_product_to (product_of s) a b n m) ≡ true

@@ -1,5 +1,5 @@
 -- What the rows of decode give of an instruction beside what its fields tell.
-use Rattle.std.specs.Prelude.{ℕ, ◌≡◌, ◌==◌, ◌&&◌, ◌||◌, not, nat_lt, Bool, true, false, Ok, if◌then◌else◌}
+use Rattle.std.specs.Prelude.{ℕ, ◌≡◌, ◌+◌, ◌==◌, ◌&&◌, ◌||◌, not, nat_lt, Bool, true, false, Ok, if◌then◌else◌}
 use Rattle.thumb_instr.specs.declared.operations.AluOp.{AluOp}
 use Rattle.thumb_instr.specs.declared.operations.AluOp.TheVariants as alu
 use Rattle.thumb_instr.specs.declared.operations.TestOp.{TestOp}
@@ -16,6 +16,7 @@ use Rattle.thumb_instr.specs.Operands.{has}
 use Rattle.thumb_instr.specs.Sets.{is_source, moves_base, moves_pair_base, reads_of, writes_of}
 use Rattle.thumb_instr.specs.MaySet.{may_set_of}
 use Rattle.thumb_instr.specs.DataRows.{is_copy, takes_sp}
+use Rattle.thumb_instr.specs.FullRows.{members, one_if}
 use Rattle.thumb_instr.specs.Rows.{decode}
 use Rattle.seq_core.specs.declared.classes.Class.TheVariants.{Through}
 use Rattle.seq_core.specs.Classes.{IsOf, adds_or_subtracts}
@@ -95,6 +96,34 @@ misplaces_stack (Adr i) = is_stack i.d
 misplaces_stack (ZeroBranch i) = is_stack i.n
 misplaces_stack i = false
 
+-- A list with pc is loaded from sp upwards, which moves behind it, and has no lr (ARMv7-M ARM, A5.3.5).
+abbrev pub loads_pc_by_pop : Instr → Bool
+loads_pc_by_pop (Multi i) = not i.pc || (i.load && (not i.down && (i.back && (is_stack i.n && not (has i.list.0 14)))))
+loads_pc_by_pop i = true
+
+-- Nothing is summed of sp and sp.
+abbrev pub takes_stack_once : Instr → Bool
+takes_stack_once (Alu i) = not (is_stack i.n && operand_names_stack i.x)
+takes_stack_once i = true
+
+-- A pair is not loaded into one register, and a list is loaded from below a base into two or more.
+abbrev pub loads_several : Instr → Bool
+loads_several (Pair i) = not (i.load && (i.t == i.u))
+loads_several (Multi i) = not (i.load && (i.down && nat_lt (members 15 i.list.0 + one_if i.pc) 2))
+loads_several i = true
+
+-- The number by which an access is beside its base has 12 bits upwards, and 8 downwards.
+abbrev pub place_reaches : Place → Bool
+place_reaches (Offset true imm) = nat_lt imm 4096
+place_reaches (Offset false imm) = nat_lt imm 256
+place_reaches (Pre up imm) = true
+place_reaches (Post up imm) = true
+place_reaches (Index m shift) = true
+
+abbrev pub reaches : Instr → Bool
+reaches (Access i) = place_reaches i.place
+reaches i = true
+
 -- Whatever halfwords stand for has its base apart and sp where it may stand.
 abbrev pub DecodesApart : Type 0
 DecodesApart = (place : ItPlace) (first second : ℕ) (i : Instr) → decode place first second ≡ Ok i → (keeps_base_apart i ≡ true) × (misplaces_stack i ≡ false)
@@ -105,6 +134,16 @@ ThroughKeepsStack = (place : ItPlace) (first second : ℕ) (i : Instr) → decod
 
 abbrev pub DecodesMoveByBytes : Type 0
 DecodesMoveByBytes = (place : ItPlace) (first second : ℕ) (i : Instr) → decode place first second ≡ Ok i → moves_by_byte i ≡ true
+
+-- So whatever halfwords stand for uses sp.
+abbrev pub DecodesUseStack : Type 0
+DecodesUseStack = (place : ItPlace) (first second : ℕ) (i : Instr) → decode place first second ≡ Ok i → (loads_pc_by_pop i ≡ true) × (takes_stack_once i ≡ true)
+
+abbrev pub DecodesReach : Type 0
+DecodesReach = (place : ItPlace) (first second : ℕ) (i : Instr) → decode place first second ≡ Ok i → reaches i ≡ true
+
+abbrev pub DecodesLoadSeveral : Type 0
+DecodesLoadSeveral = (place : ItPlace) (first second : ℕ) (i : Instr) → decode place first second ≡ Ok i → loads_several i ≡ true
 
 -- CBZ and CBNZ test one of the registers r0 to r7 (ARMv7-M ARM, A7.7.21).
 abbrev pub tests_low_register : Instr → Bool

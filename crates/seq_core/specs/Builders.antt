@@ -1,22 +1,26 @@
 -- What a builder of sequences is given, and what its sequence does.
-use Rattle.std.specs.Prelude.{◌≡◌, ◌≤◌, ℕ, ◌+◌, ◌*◌, ◌&&◌, ◌||◌, Bool, false, if◌then◌else◌, List, [], ◌∷◌, ◌++◌, length, Ok, Err, ⊤}
+use Rattle.std.specs.Prelude.{◌≡◌, ◌≢◌, ◌≤◌, ℕ, ◌+◌, ◌*◌, ◌&&◌, ◌||◌, Bool, true, false, if◌then◌else◌, List, [], ◌∷◌, ◌++◌, length, map, Ok, Err, ⊤}
 use Rattle.mark_word.specs.Words.{plain}
 use Rattle.thumb_instr.specs.declared.instructions.Instr.{Instr}
 use Rattle.thumb_instr.specs.declared.refusals.ItPlace.TheVariants.{Outside}
+use Rattle.thumb_instr.specs.Formed.{NamesRegisters, TakesFields}
 use Rattle.thumb_instr.specs.Sets.{is_flag}
 use Rattle.thumb_instr.specs.Rows.{decode}
+use Rattle.thumb_encode.specs.HasFull.{has_full}
 use Rattle.thumb_table.specs.Conditions.{holds}
 use Rattle.thumb_table.specs.Parts.{CodeBytes}
 use Rattle.thumb_table.specs.States.{Core, Change, Exit, Falls, Jumps, Outcome}
 use Rattle.thumb_table.specs.Schedules.{is_in}
 use Rattle.seq_core.specs.declared.classes.Class.{Class}
+use Rattle.seq_core.specs.declared.classes.Class.TheVariants.{LongSum, PopReturn}
 use Rattle.seq_core.specs.declared.steps.Step.{Step}
 use Rattle.seq_core.specs.Classes.{IsOf, has_pc, adds_long_product}
 use Rattle.seq_core.specs.Needs.{registers_of}
 use Rattle.seq_core.specs.Does.{Effect, Task, Tolerates}
 use Rattle.seq_core.specs.Meanings.{Ends, meant}
 use Rattle.seq_core.specs.Sequences.{Carries, Settles}
-use Rattle.seq_core.specs.Groups.{IsFree}
+use Rattle.seq_core.specs.Groups.{IsFree, always, done, names_no_place}
+use Rattle.seq_core.specs.Built.{as_steps}
 use Rattle.seq_core.specs.Twice.{own_condition}
 use Rattle.seq_core.specs.Denoted.{Spots, groups_of, StepsStand}
 
@@ -62,6 +66,10 @@ meaning p i y = if has_pc i then returned (meant i (ends_of p) y) else meant i (
 abbrev pub loses : Instr → List ℕ → ℕ → Bool
 loses i scratch k = is_in scratch k || (adds_long_product i && is_flag k)
 
+-- Only a PopReturn loads pc, and only a LongSum adds a long product.
+abbrev pub ClassesTellMeanings : Type 0
+ClassesTellMeanings = (c : Class) (i : Instr) → IsOf c i → (c ≢ PopReturn → has_pc i ≡ false) × (c ≢ LongSum → adds_long_product i ≡ false)
+
 -- where a branch's own condition holds; any core, for what has none
 abbrev pub own_test : Instr → Core → Bool
 own_test i y = holds (own_condition i) y
@@ -81,6 +89,24 @@ pub record Do (test : Core → Bool) (i : Instr) (lost : ℕ → Bool) (copies :
 abbrev pub StepsDo : Type 0
 StepsDo = (test : Core → Bool) (i : Instr) (lost : ℕ → Bool) (copies : ℕ) (steps : List Step) →
     ((p : Spots) → Carries Settles p.end test (meaning p i) lost (groups_of p steps)) → Do test i lost copies steps
+
+-- What groups carry out they carry out where more may be lost.
+abbrev pub MoreMayBeLost : Type 0
+MoreMayBeLost = (end : ℕ) (test : Core → Bool) (effect : Effect) (lost more : ℕ → Bool) (groups : List Effect) → ((k : ℕ) → more k ≡ false → lost k ≡ false) →
+    Carries Settles end test effect lost groups → Carries Settles end test effect more groups
+
+abbrev pub NameNoPlace : List Instr → Type 0
+NameNoPlace [] = ⊤
+NameNoPlace (j ∷ js) = (names_no_place j ≡ true) × NameNoPlace js
+
+-- Where no instruction names a place, and none is a return, steps do one that they carry out; they may lose more.
+abbrev pub PlainStepsDo : Type 0
+PlainStepsDo = (i : Instr) (copies : ℕ) (instrs : List Instr) (lost more : ℕ → Bool) → names_no_place i ≡ true → has_pc i ≡ false → NameNoPlace instrs →
+    ((k : ℕ) → more k ≡ false → lost k ≡ false) → ((end : ℕ) → Carries Settles end always (done i) lost (map done instrs)) → Do (own_test i) i more copies (as_steps copies instrs)
+
+-- Formed instructions with a code of two halfwords have it as a row.
+abbrev pub FullCodesAreRows : Type 0
+FullCodesAreRows = (i : Instr) → NamesRegisters i → TakesFields i → has_full i ≡ true → HasRow i
 
 -- Each step has a code.
 abbrev pub AreCoded : List Step → Type 0

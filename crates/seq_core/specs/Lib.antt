@@ -10,6 +10,7 @@ pub mod Guards
 pub mod Twice
 pub mod Through
 pub mod Bases
+pub mod Lists
 pub mod Calls
 pub mod Stacks
 pub mod Sums
@@ -26,4 +27,5 @@ pub mod Single
 pub mod Example
 pub mod Denoted
 pub mod Replaced
+pub mod Coded
 pub mod Builders

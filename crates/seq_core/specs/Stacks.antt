@@ -1,5 +1,5 @@
 -- Lists that are moved to and from a stack.
-use Rattle.std.specs.Prelude.{◌≡◌, ◌<◌, ℕ, ◌==◌, ◌||◌, Bool, true, false, List, [], ◌∷◌, ◌++◌}
+use Rattle.std.specs.Prelude.{◌≡◌, ◌<◌, ℕ, Bool, true, false, List, [], ◌∷◌, ◌++◌}
 use Rattle.thumb_instr.specs.declared.instructions.Instr.{Instr}
 use Rattle.thumb_instr.specs.declared.instructions.Instr.TheVariants as instr
 use Rattle.thumb_table.specs.Effects.{registers, bytes_of}
@@ -9,6 +9,7 @@ use Rattle.thumb_instr.specs.declared.register_sets.RegSet.{RegSet}
 use Rattle.seq_core.specs.Sequences.{Carries, Settles}
 use Rattle.seq_core.specs.Groups.{always, done, only, moving, jump_by}
 use Rattle.seq_core.specs.Bases.{summing, IsConstant, access_at, IsBeside}
+use Rattle.seq_core.specs.Builders.{returned}
 
 abbrev pub multi_at : Bool → ℕ → RegSet → Instr
 multi_at load n list = instr.Multi (record { load = load; down = false; back = false; n = n; list = list; pc = false })
@@ -41,7 +42,7 @@ UpCarries = (load : Bool) (n q k end : ℕ) (list : RegSet) → IsBeside n q →
 abbrev pub returning : RegSet → Instr
 returning list = instr.Multi (record { load = true; down = false; back = true; n = 13; list = list; pc = true })
 
--- the list with lr in place of pc; lr is lost
+-- the list with lr in place of pc: lr has the word that is popped for pc
 abbrev pub PopReturnCarries : Type 0
 PopReturnCarries = (q k end : ℕ) (list lr_list : RegSet) → q < 13 → IsOutside 13 q lr_list → registers lr_list.0 ≡ registers list.0 ++ (14 ∷ []) → IsConstant k (bytes_of list.0 true) →
-    Carries Settles end always (done (returning list)) (λ r. (r == q) || (r == 14)) (done (transfer_at true 13 lr_list (registers lr_list.0)) ∷ done (summing true q 13 k) ∷ done (moving false 13 q) ∷ jump_by 14 ∷ [])
+    Carries Settles end always (λ y. returned (done (returning list) y)) (only q) (done (transfer_at true 13 lr_list (registers lr_list.0)) ∷ done (summing true q 13 k) ∷ done (moving false 13 q) ∷ jump_by 14 ∷ [])

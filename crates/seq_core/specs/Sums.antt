@@ -1,12 +1,9 @@
 -- SMLAL and UMLAL, by a product and two sums.
-use Rattle.std.specs.Prelude.{◌≢◌, ◌<◌, ℕ, ◌^◌, ◌==◌, ◌||◌, nat_lt, Bool, true, false, [], ◌∷◌, Err, if◌then◌else◌}
+use Rattle.std.specs.Prelude.{◌≢◌, ◌<◌, ℕ, ◌==◌, ◌||◌, Bool, true, false, [], ◌∷◌}
 use Rattle.thumb_instr.specs.declared.operations.AluOp.TheVariants as alu
 use Rattle.thumb_instr.specs.declared.operations.LongMulOp.{LongMulOp}
 use Rattle.thumb_instr.specs.declared.operations.LongMulOp.TheVariants.{Smlal, Umlal}
 use Rattle.thumb_instr.specs.Sets.{is_flag}
-use Rattle.thumb_table.specs.declared.faults.FaultKind.TheVariants.{BadStack}
-use Rattle.thumb_table.specs.Effects.{value}
-use Rattle.seq_core.specs.Does.{Effect}
 use Rattle.seq_core.specs.Sequences.{Carries, Settles}
 use Rattle.seq_core.specs.Groups.{always, done, moving}
 use Rattle.seq_core.specs.Through.{product_of, long_product_to, register_sum}
@@ -32,12 +29,7 @@ pub record AreThree (a b c lo hi n m : ℕ) : Type 0 where
   pub hi_kept : hi ≢ 13
   pub apart : lo ≢ hi
 
--- An effect, asked only where a register has a number of 32 bits, as each has in a machine: the sum of the low words
--- carries by the whole number in it.
-abbrev pub where_small : ℕ → Effect → Effect
-where_small r e y = if nat_lt (value y r) (2 ^ 32) then e y else Err BadStack
-
 abbrev pub LongSumCarries : Type 0
 LongSumCarries = (is_signed : Bool) (a b c lo hi n m end : ℕ) → AreThree a b c lo hi n m →
-    Carries Settles end always (where_small lo (done (long_product_to (sum_of is_signed) lo hi n m))) (λ k. (k == a) || ((k == b) || ((k == c) || is_flag k)))
+    Carries Settles end always (done (long_product_to (sum_of is_signed) lo hi n m)) (λ k. (k == a) || ((k == b) || ((k == c) || is_flag k)))
     (done (long_product_to (product_of is_signed) a b n m) ∷ done (register_sum alu.Add true c lo a) ∷ done (register_sum alu.Adc false a hi b) ∷ done (moving false lo c) ∷ done (moving false hi a) ∷ [])

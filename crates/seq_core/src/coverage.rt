@@ -1,7 +1,7 @@
 //! Laws of classes. The functions do nothing: their contracts are the laws.
 
 ghost use Rattle.std.specs.Prelude.{◌≡◌, ◌≤◌, false, true};
-ghost use Rattle.seq_core.specs.Accepted.{DecodesApart, DecodesKeepFlags, DecodesMoveByBytes, DecodesTestLow, ThroughKeepsStack};
+ghost use Rattle.seq_core.specs.Accepted.{DecodesApart, DecodesKeepFlags, DecodesLoadSeveral, DecodesMoveByBytes, DecodesReach, DecodesTestLow, DecodesUseStack, ThroughKeepsStack};
 ghost use Rattle.seq_core.specs.Classes.{ClassesCover, ClassesApart};
 ghost use Rattle.seq_core.specs.Needs.{ThroughNeeds, NeedsFit};
 
@@ -26,6 +26,21 @@ pub fn decodes_are_apart()
     ensures through { ThroughKeepsStack }
     ensures bytes { DecodesMoveByBytes }
     ensures low { DecodesTestLow }
+{}
+
+/// A list loads pc only as a pop without lr, and nothing is summed of sp and sp.
+pub fn decodes_use_stack()
+    ensures { DecodesUseStack }
+{}
+
+/// The offset of an access has 12 bits upwards, and 8 downwards.
+pub fn decodes_reach()
+    ensures { DecodesReach }
+{}
+
+/// No pair is loaded into one register, and no list of one from below its base.
+pub fn decodes_load_several()
+    ensures { DecodesLoadSeveral }
 {}
 
 /// No instruction both reads a flag and sets it.

@@ -1,10 +1,13 @@
 //! Laws of instructions and of sequences. The functions do nothing: their contracts are the laws.
 
-ghost use Rattle.seq_core.specs.Builders.{StepsDo};
+ghost use Rattle.seq_core.specs.Builders.{ClassesTellMeanings, FullCodesAreRows, MoreMayBeLost, PlainStepsDo, StepsDo};
+ghost use Rattle.seq_core.specs.Coded.{AccessesCoded, CopiesCoded, MovesCoded, SumsCoded, TransfersCoded};
 ghost use Rattle.seq_core.specs.Denoted.{StepsDenote, StepsWork, StepsWorkOnce};
 ghost use Rattle.seq_core.specs.Effects.{DependsOnReads, GoesTo, KeepsToWrites, LowGoesTo, StaysQuiet, WritesAll};
 ghost use Rattle.seq_core.specs.Example.{AddsWorks};
 ghost use Rattle.seq_core.specs.Sequences.{SchedulesAreLegal, SequencesWork, SequencesWorkOnce};
+
+use thumb_encode::full_codes_are_told;
 
 /// An effect depends only on what the instruction reads, on memory and on where it stands.
 pub fn effects_depend_on_reads()
@@ -70,6 +73,39 @@ pub fn steps_work_once()
 pub fn steps_do()
     ensures { StepsDo }
 {}
+
+/// What groups carry out they carry out where more may be lost.
+pub fn more_may_be_lost()
+    ensures { MoreMayBeLost }
+{}
+
+/// Of instructions that name no place, it is enough that the steps' carry the other one out.
+pub fn plain_steps_do()
+    ensures { PlainStepsDo }
+{}
+
+/// A formed instruction with a code of two halfwords has a row.
+pub fn full_codes_are_rows()
+    ensures { FullCodesAreRows }
+{
+    full_codes_are_told();
+}
+
+/// An instruction of a class other than PopReturn loads no pc, and one of another than LongSum adds no long product.
+pub fn classes_tell_meanings()
+    ensures { ClassesTellMeanings }
+{}
+
+/// Moves, sums with a constant, accesses and lists at a base, as sequences have them, have codes.
+pub fn made_steps_are_coded()
+    ensures moves { MovesCoded }
+    ensures sums { SumsCoded }
+    ensures accesses { AccessesCoded }
+    ensures transfers { TransfersCoded }
+    ensures copies { CopiesCoded }
+{
+    full_codes_are_told();
+}
 
 /// One of them in bytes: ADDS of 1 to r0, by way of r12.
 pub fn an_addition_works()

@@ -2,21 +2,19 @@
 #![tactic(auto)]
 
 mod builders;
-mod building;
 mod building_laws;
 mod class_laws;
 mod classes;
 mod constants;
 mod coverage;
 mod laws;
+mod making;
 mod moving_laws;
 mod needs;
 mod steps;
-mod straight;
 mod units;
 
 pub use builders::Builder;
-pub use building::{through_one, through_two};
 pub use building_laws::scratch_registers_suffice;
 pub use class_laws::{
     branches_in_place, clears_in_place, conditions_work, copies_at_places, decodes_through_scratch,
@@ -28,21 +26,23 @@ pub use class_laws::{
 pub use classes::{Class, class_of};
 pub use constants::{code_of_move, moves_are_constants};
 pub use coverage::{
-    decodes_are_apart, decodes_keep_flags, instructions_have_one_class, needs_are_small,
+    decodes_are_apart, decodes_keep_flags, decodes_load_several, decodes_reach, decodes_use_stack,
+    instructions_have_one_class, needs_are_small,
 };
 pub use laws::{
-    an_addition_works, effects_depend_on_reads, effects_keep_to_writes, effects_stay_quiet,
-    effects_write_all, low_results_go_to, results_go_to, schedules_are_legal, sequences_work,
-    sequences_work_once, steps_do,
+    an_addition_works, classes_tell_meanings, effects_depend_on_reads, effects_keep_to_writes,
+    effects_stay_quiet, effects_write_all, full_codes_are_rows, low_results_go_to,
+    made_steps_are_coded, more_may_be_lost, plain_steps_do, results_go_to, schedules_are_legal,
+    sequences_work, sequences_work_once, steps_do,
 };
+pub use making::{count_registers, moved, sequence, sole_register, summed};
 pub use moving_laws::{
     base_copies_of_lists_work, base_copies_of_one_work, base_copies_of_pairs_work,
-    direct_calls_work, flagged_products_work, link_calls_work, lists_downwards_work,
-    lists_upwards_work, long_sums_work, pops_into_pc_work, post_accesses_work, post_pairs_work,
-    pre_accesses_work, pre_pairs_work, register_calls_work, register_jumps_work,
-    zero_branches_work,
+    decodes_copy_bases, direct_calls_work, flagged_products_work, link_calls_work,
+    lists_downwards_work, lists_upwards_work, long_sums_work, pops_into_pc_work,
+    post_accesses_work, post_pairs_work, pre_accesses_work, pre_pairs_work, register_calls_work,
+    register_jumps_work, zero_branches_work,
 };
 pub use needs::{Need, need_of};
 pub use steps::{Goal, Seq, Step};
-pub use straight::{flagged, in_place, written_back};
 pub use units::{Layout, PlacedUnit, Unit};

@@ -2,6 +2,7 @@
 
 ghost use Rattle.seq_core.specs.Bases.{BaseCopyListCarries, BaseCopyOneCarries, BaseCopyPairCarries, FlaggedProductCarries, PostAccessCarries, PostPairCarries, PreAccessCarries, PrePairCarries};
 ghost use Rattle.seq_core.specs.Calls.{DirectCallCarries, LinkCallCarries, RegisterCallCarries, RegisterJumpCarries, ZeroBranchCarries};
+ghost use Rattle.seq_core.specs.Decoded.{BaseCopyDecodes};
 ghost use Rattle.seq_core.specs.Stacks.{DownCarries, PopReturnCarries, UpCarries};
 ghost use Rattle.seq_core.specs.Sums.{LongSumCarries};
 
@@ -45,6 +46,11 @@ pub fn base_copies_of_one_work()
     ensures { BaseCopyOneCarries }
 {}
 
+/// Of what halfwords stand for only a free register is asked.
+pub fn decodes_copy_bases()
+    ensures { BaseCopyDecodes }
+{}
+
 /// A list that moves its base down: the base moves by way of a scratch register, and the list is at the base.
 pub fn lists_downwards_work()
     ensures { DownCarries }
@@ -55,7 +61,7 @@ pub fn lists_upwards_work()
     ensures { UpCarries }
 {}
 
-/// A pop into pc: it goes to lr, sp moves by way of a scratch register, and a jump by lr follows.
+/// A pop into pc: its word goes to lr, sp moves by way of a scratch register, and a jump by lr follows, which keeps lr.
 pub fn pops_into_pc_work()
     ensures { PopReturnCarries }
 {}

@@ -1,7 +1,11 @@
-//! Rows of sequences: what builders make of the instructions of codes, each with the steps that it must have.
+//! Rows of sequences, each with the codes that its steps must have.
 #![tactic(auto)]
 
 #[cfg(test)]
-mod building;
+mod built;
 #[cfg(test)]
 mod calls;
+#[cfg(test)]
+mod stacks;
+#[cfg(test)]
+mod straight;
