@@ -8,60 +8,96 @@ use seq_calls::{DirectCall, RegisterCall, RegisterJump, ZeroBranch, with_landing
 use seq_core::{Builder, Class, Goal, Seq, Step};
 use std::alloc::{AllocError, Global};
 use std::process::Abort;
-use thumb_instr::Cond;
+use std::test::Fail;
+use thumb_encode::{Code, Width, encode};
+use thumb_instr::{Cond, Instr, Reg};
 
-/// Codes, scratch registers and copies, and what comes of them.
-type Row = (u32, &'static [u8], u8, &'static str);
+/// The codes of an instruction in one and in two halfwords.
+fn codes(alloc: Global, i: &Instr) -> Result<String, AllocError> {
+    let half = match encode(i, Width::Half) {
+        Some(Code::Half(h)) => format!(in alloc; "{h:04x}")?,
+        _ => String::from_str(alloc, "-")?,
+    };
+    match encode(i, Width::Full) {
+        Some(Code::Full(first, second)) => format!(in alloc; "{half} {first:04x}{second:04x}"),
+        _ => format!(in alloc; "{half} -"),
+    }
+}
+
+/// The steps of a sequence, each with its codes, what its number leads to and how often it stands, and the landing.
+fn told(alloc: Global, s: &Seq) -> Result<String, AllocError> {
+    let mut text = String::new(alloc);
+    for step in s.steps() {
+        let codes = codes(alloc, &step.instr)?;
+        text.push_str(&format!(in alloc; "{codes} {:?} {}; ", step.goal, step.copies)?)?;
+    }
+    text.push_str(&format!(in alloc; "{}", s.landing())?)?;
+    Ok(text)
+}
+
+/// Finds the sequence that a builder makes of a row's instruction.
+fn builds<B: Builder>(rt: &impl Abort, alloc: Global, b: &B, row: &Row) -> Result<(), Fail> {
+    let i = instruction(rt, row.0);
+    let copy = [register(rt, 12)];
+    let scratch: &[Reg] = if row.1 { &copy } else { &[] };
+    let s = built(rt, b, &i, scratch, row.2);
+    assert_eq!(rt; told(alloc, &s)?.as_str(), row.3, "{:x}", row.0);
+    Ok(())
+}
+
+/// A code, whether r12 is given, copies, and what comes of them.
+type Row = (u32, bool, u8, &'static str);
 
 const CALLS: [Row; 2] = [
     (
         0xF7FF_FFFE,
-        &[],
+        false,
         2,
         "- f20f0e00 Landing 2; e000 f000b800 Target 2; 2",
     ),
     (
         0xF000_F802,
-        &[],
+        false,
         4,
         "- f20f0e00 Landing 4; e000 f000b800 Target 4; 2",
     ),
 ];
 
 const REGISTER_CALLS: [Row; 2] = [
-    (0x4798, &[], 2, "- f20f0e00 Landing 2; 4718 - Nowhere 2; 2"),
+    (0x4798, false, 2, "- f20f0e00 Landing 2; 4718 - Nowhere 2; 2"),
     (
         0x47F0,
-        &[12],
+        true,
         3,
         "46f4 ea4f0c0e Nowhere 3; - f20f0e00 Landing 3; 4760 - Nowhere 3; 3",
     ),
 ];
 
 const JUMPS: [Row; 2] = [
-    (0x4770, &[], 2, "4770 - Nowhere 2; 1"),
-    (0x4718, &[], 2, "4718 - Nowhere 2; 1"),
+    (0x4770, false, 2, "4770 - Nowhere 2; 1"),
+    (0x4718, false, 2, "4718 - Nowhere 2; 1"),
 ];
 
 const ZERO_BRANCHES: [Row; 2] = [
-    (0xB100, &[], 2, "b900 - End 2; e000 f000b800 Target 2; 2"),
-    (0xB90F, &[], 2, "b107 - End 2; e000 f000b800 Target 2; 2"),
+    (0xB100, false, 2, "b900 - End 2; e000 f000b800 Target 2; 2"),
+    (0xB90F, false, 2, "b107 - End 2; e000 f000b800 Target 2; 2"),
 ];
 
 #[test]
-fn builds_calls_and_branches(rt: HostRuntime) {
+fn builds_calls_and_branches(rt: HostRuntime) -> Result<(), Fail> {
     for row in &CALLS {
-        builds(&rt, rt.alloc(), &DirectCall, row.0, row.1, row.2, row.3);
+        builds(&rt, rt.alloc(), &DirectCall, row)?;
     }
     for row in &REGISTER_CALLS {
-        builds(&rt, rt.alloc(), &RegisterCall, row.0, row.1, row.2, row.3);
+        builds(&rt, rt.alloc(), &RegisterCall, row)?;
     }
     for row in &JUMPS {
-        builds(&rt, rt.alloc(), &RegisterJump, row.0, row.1, row.2, row.3);
+        builds(&rt, rt.alloc(), &RegisterJump, row)?;
     }
     for row in &ZERO_BRANCHES {
-        builds(&rt, rt.alloc(), &ZeroBranch, row.0, row.1, row.2, row.3);
+        builds(&rt, rt.alloc(), &ZeroBranch, row)?;
     }
+    Ok(())
 }
 
 #[test]
@@ -75,7 +111,7 @@ fn names_classes_and_needs(rt: HostRuntime) {
 /// BL whose return is to nowhere.
 #[test]
 fn adds_landings(rt: HostRuntime) {
-    let i = found(&rt, 0xF7FF_FFFE);
+    let i = instruction(&rt, 0xF7FF_FFFE);
     let s = built(&rt, &DirectCall, &i, &[], 2);
     let landing = with_landing(&s, 2);
     let text = told(rt.alloc(), &landing).expect(&rt, "memory");
@@ -180,7 +216,7 @@ fn expands_blocks(rt: HostRuntime) {
 fn guards_bodies(rt: HostRuntime) {
     let mut s = Seq::new();
     s.push(Step {
-        instr: found(&rt, 0xF04F_0001),
+        instr: instruction(&rt, 0xF04F_0001),
         goal: Goal::Nowhere,
         copies: 2,
     });
