@@ -64,7 +64,12 @@ const CALLS: [Row; 2] = [
 ];
 
 const REGISTER_CALLS: [Row; 2] = [
-    (0x4798, false, 2, "- f20f0e00 Landing 2; 4718 - Nowhere 2; 2"),
+    (
+        0x4798,
+        false,
+        2,
+        "- f20f0e00 Landing 2; 4718 - Nowhere 2; 2",
+    ),
     (
         0x47F0,
         true,
