@@ -4,4 +4,6 @@
 #[cfg(test)]
 mod built;
 #[cfg(test)]
+mod stacks;
+#[cfg(test)]
 mod straight;
