@@ -1,6 +1,6 @@
 //! Calls, jumps to registers, branches on zero, and sequences under guards.
 
-use crate::building::{builds, built, codes, found, told};
+use crate::built::{built, instruction, register};
 use elf_model::{Bytes, Home, Limit, Name, Object, Section, Symbol, object, within};
 use flow_recover::{Flow, recover};
 use it_expand::{expand, guarded};
