@@ -2,7 +2,6 @@
 use Rattle.std.proofs.Math.Nat.{mul-zero, mul-suc, add_comm}
 use Rattle.std.proofs.Common.{ap, ◌∙◌}
 use Rattle.std.specs.Prelude.{◌≡◌, ℕ, ◌+◌, ◌*◌, List, [], ◌∷◌, length}
-use Rattle.thumb_table.specs.States.{Core}
 use Rattle.seq_core.specs.declared.steps.Step.{Step}
 use Rattle.seq_core.specs.Sequences.{steps_of}
 use Rattle.seq_core.specs.Denoted.{Spots, groups_of}

@@ -1,22 +1,21 @@
 -- The instructions of which sequences are made have codes of two halfwords.
-use Rattle.std.proofs.Common.{◌≡◌, ◌≢◌, ℕ, zero, suc, ◌+◌, ◌*◌, ◌/◌, ◌%◌, ◌^◌, ◌<◌, ◌≤◌, ◌==◌, ◌&&◌, ◌||◌, not, nat_lt, add-one, Bool, true, false, List, [], ◌∷◌, length, filter, cond, refl, sym, ap, ◌∙◌, arith, ne_eqb}
+use Rattle.std.proofs.Common.{◌≡◌, ◌≢◌, ℕ, zero, suc, ◌+◌, ◌/◌, ◌%◌, ◌^◌, ◌<◌, ◌≤◌, ◌==◌, ◌||◌, nat_lt, add-one, Bool, true, false, List, [], ◌∷◌, length, filter, cond, refl, sym, ap, ◌∙◌, arith, ne_eqb}
 use Rattle.std.proofs.Math.Nat.{div-one, div-div-eq-div-mul, pow-suc}
-use Rattle.std.proofs.lemmas.Bool.{and_parts, eqb-true, eqb-false, ltb-true}
+use Rattle.std.proofs.lemmas.Bool.{eqb-true, eqb-false}
 use Rattle.std.proofs.lemmas.Bool.Decides.{nat_tests}
-use Rattle.thumb_instr.specs.declared.operations.AccessOp.{AccessOp}
 use Rattle.thumb_instr.specs.declared.operations.AccessOp.TheVariants.{Ldr, Str}
 use Rattle.thumb_instr.specs.declared.register_sets.RegSet.{RegSet}
 use Rattle.thumb_instr.specs.declared.instructions.Instr.{Instr}
 use Rattle.thumb_instr.specs.declared.instructions.Instr.TheVariants as instr
-use Rattle.thumb_instr.specs.Operands.{has, has_constant, is_list}
+use Rattle.thumb_instr.specs.Operands.{has, is_list}
 use Rattle.thumb_instr.specs.Formed.{NamesRegisters, TakesFields}
 use Rattle.thumb_instr.specs.DataRows.{has_odd_sp, is_copy, is_rrx, names}
 use Rattle.thumb_instr.specs.FullRows.{members}
 use Rattle.thumb_table.specs.Effects.{registers}
 use Rattle.thumb_encode.specs.HasFull.{TellsCodes, has_full}
 use Rattle.seq_core.specs.Groups.{moving}
-use Rattle.seq_core.specs.Bases.{access_at, loading, summing}
-use Rattle.seq_core.specs.Stacks.{multi_at, transfer_at}
+use Rattle.seq_core.specs.Bases.{access_at, summing}
+use Rattle.seq_core.specs.Stacks.{transfer_at}
 use Rattle.seq_core.specs.Builders.{HasRow}
 use Rattle.seq_core.specs.Replaced.{copy_loading}
 use Rattle.seq_core.specs.Coded.{MovesCoded, SumsCoded, AccessesCoded, TransfersCoded, CopiesCoded}

@@ -11,7 +11,7 @@ use Rattle.thumb_instr.specs.Sets.{moves_pair_base}
 use Rattle.thumb_encode.specs.HasFull.{has_full}
 use Rattle.thumb_table.specs.Effects.{registers}
 use Rattle.seq_core.specs.declared.classes.Class.TheVariants as class
-use Rattle.seq_core.specs.Accepted.{DecodesLoadSeveral, loads_several}
+use Rattle.seq_core.specs.Accepted.{DecodesLoadSeveral}
 use Rattle.seq_core.specs.Coded.{CopiesCoded, MovesCoded}
 use Rattle.seq_core.specs.Decoded.{BaseCopyDecodes}
 use Rattle.seq_core.specs.Groups.{moving, names_no_place, only}

@@ -1,5 +1,5 @@
 -- The steps of what goes through scratch registers have codes.
-use Rattle.std.proofs.Common.{◌≡◌, ◌≢◌, ℕ, suc, ◌+◌, ◌<◌, ◌≤◌, ◌==◌, ◌||◌, Bool, true, false, List, [], ◌∷◌, Option, Some, None, refl, sym, ◌∙◌, subst, arith}
+use Rattle.std.proofs.Common.{◌≡◌, ℕ, ◌+◌, ◌<◌, ◌≤◌, ◌==◌, ◌||◌, Bool, true, false, [], ◌∷◌, Option, Some, None, refl, ◌∙◌, arith}
 use Rattle.std.specs.Prelude.{◌&&◌, not, nat_le, if◌then◌else◌}
 use Rattle.mark_word.specs.declared.numbers.Shift.TheVariants.{Lsl, Lsr, Asr, Ror, Rrx}
 use Rattle.thumb_instr.specs.declared.operations.AluOp.{AluOp}
@@ -15,7 +15,7 @@ use Rattle.thumb_instr.specs.declared.places.Place.TheVariants.{Offset, Pre, Pos
 use Rattle.thumb_instr.specs.declared.refusals.ItPlace.TheVariants.{Outside}
 use Rattle.thumb_instr.specs.declared.instructions.Instr.{Instr}
 use Rattle.thumb_instr.specs.declared.instructions.Instr.TheVariants.{Alu, Move, ShiftBy, Wide, Field, Unary, Mul, MulAcc, LongMul, Div, Access}
-use Rattle.thumb_instr.specs.Fields.{AluFields, MoveFields, FieldFields, LongMulFields, AccessFields}
+use Rattle.thumb_instr.specs.Fields.{AluFields, FieldFields, LongMulFields, AccessFields}
 use Rattle.thumb_instr.specs.Formed.{IsFormed, IsSource}
 use Rattle.thumb_instr.specs.Operands.{is_field}
 use Rattle.thumb_instr.specs.MaySet.{may_set_of}
@@ -34,7 +34,7 @@ use Rattle.seq_core.specs.Twice.{inserting}
 use Rattle.seq_core.specs.Built.{as_steps, placed, through_one, through_two}
 use Rattle.seq_core.specs.Builders.{AreCoded, HasRow}
 use Rattle.seq_separable.proofs.Lost.{either, turned}
-use Rattle.seq_separable.proofs.Known.{Laws, no_both, no_stack, not_true, small}
+use Rattle.seq_separable.proofs.Known.{Laws, no_both, no_stack, small}
 
 pub record CodeLaws : Type 0 where
   pub flags : DecodesKeepFlags

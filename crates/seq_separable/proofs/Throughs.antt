@@ -1,5 +1,5 @@
 -- What reads a register that it writes goes through scratch registers.
-use Rattle.std.proofs.Common.{◌≡◌, ◌≢◌, ℕ, suc, ◌+◌, ◌<◌, ◌≤◌, ◌==◌, ◌||◌, Bool, true, false, List, [], ◌∷◌, Option, Some, None, length, refl, sym, arith}
+use Rattle.std.proofs.Common.{◌≡◌, ℕ, suc, ◌==◌, ◌||◌, Bool, true, false, List, [], ◌∷◌, Option, Some, None, refl, sym, arith}
 use Rattle.std.specs.Prelude.{if◌then◌else◌}
 use Rattle.thumb_instr.specs.declared.operations.AluOp.TheVariants as alu
 use Rattle.thumb_instr.specs.declared.refusals.ItPlace.TheVariants.{Outside}

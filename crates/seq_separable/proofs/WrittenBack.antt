@@ -1,6 +1,6 @@
 -- Accesses that move their base move it by way of a scratch register.
-use Rattle.std.proofs.Common.{◌≡◌, ◌≢◌, ℕ, ◌<◌, ◌≤◌, ◌%◌, ◌==◌, ◌||◌, Bool, true, false, List, [], ◌∷◌, refl, sym, arith}
-use Rattle.std.specs.Prelude.{map, ◌&&◌, not, nat_lt, nat_le}
+use Rattle.std.proofs.Common.{◌≡◌, ◌≢◌, ℕ, ◌<◌, ◌≤◌, ◌==◌, ◌||◌, Bool, true, false, [], ◌∷◌, refl, sym, arith}
+use Rattle.std.specs.Prelude.{map, ◌&&◌, not, nat_lt}
 use Rattle.thumb_instr.specs.declared.operations.AccessOp.{AccessOp}
 use Rattle.thumb_instr.specs.declared.places.Place.{Place}
 use Rattle.thumb_instr.specs.declared.places.Place.TheVariants.{Offset, Pre, Post, Index}
@@ -25,7 +25,7 @@ use Rattle.seq_core.specs.Built.{as_steps}
 use Rattle.seq_core.specs.Straight.{around, around_pair, written_back}
 use Rattle.seq_core.specs.Builders.{AreCoded, CanBuild, HasRow, NameNoPlace, loses}
 use Rattle.seq_separable.proofs.Lost.{Works, either, one_lost}
-use Rattle.seq_separable.proofs.Known.{Laws, and_false, both, differs, no_both, no_stack, not_true, small}
+use Rattle.seq_separable.proofs.Known.{Laws, and_false, differs, no_both, no_stack, not_true, small}
 
 pub record BackLaws : Type 0 where
   pub pre_accesses : PreAccessCarries

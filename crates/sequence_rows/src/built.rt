@@ -1,8 +1,9 @@
 //! Sequences of builders, as the codes of their steps.
 
-ghost use Rattle.std.specs.Prelude.{IsTrue, ◌≡◌, ◌∷◌, true};
+ghost use Rattle.std.specs.Prelude.{IsTrue, ◌≡◌};
 ghost use Rattle.thumb_table.specs.Schedules.{is_in};
 ghost use Rattle.seq_core.specs.Builders.{AreFree, HasRow};
+ghost use Rattle.seq_core.specs.Groups.{IsFree};
 
 use seq_core::{Builder, Seq, class_of};
 use std::alloc::{AllocError, Global};
@@ -31,28 +32,30 @@ pub(crate) fn register(rt: &impl Abort, number: u8) -> Reg {
 }
 
 /// Whether a register is one of some.
-fn is_among(q: Reg, scratch: &[Reg]) -> bool
-    ensures { result ≡ is_in scratch.now q }
+fn is_among(q: Reg, registers: &[Reg]) -> bool
+    ensures { result ≡ is_in registers.now q }
 {
-    if scratch.is_empty() {
-        return false;
+    match registers.split_first() {
+        None => false,
+        Some((r, others)) => r.number() == q.number() || is_among(q, others),
     }
-    scratch[0].number() == q.number() || is_among(q, &scratch[1..])
 }
 
-/// Whether an instruction leaves some registers below sp, all different.
+/// Whether an instruction leaves a register below sp.
+fn is_free(i: &Instr, q: Reg) -> bool
+    ensures { IsTrue result → IsFree i.now q }
+{
+    q.number() < 13 && !reads(i).has(q) && !writes(i).has(q)
+}
+
+/// Whether it leaves some, all different.
 fn are_free(i: &Instr, scratch: &[Reg]) -> bool
     ensures { IsTrue result → AreFree i.now scratch.now }
 {
-    if scratch.is_empty() {
-        return true;
+    match scratch.split_first() {
+        None => true,
+        Some((q, others)) => is_free(i, *q) && !is_among(*q, others) && are_free(i, others),
     }
-    let q = scratch[0];
-    q.number() < 13
-        && !reads(i).has(q)
-        && !writes(i).has(q)
-        && !is_among(q, &scratch[1..])
-        && are_free(i, &scratch[1..])
 }
 
 /// The sequence of an instruction of the builder's class.

@@ -153,7 +153,7 @@ const CLASSES: [(u32, &str); 48] = [
     (0xBD10, "PopReturn 1"),
     (0xC002, "MultiBack 1"),
     (0xF8DF07FC, "Twice 0"),
-    (0xA000, "-"),
+    (0xF20F0000, "-"),
     (0xE7FE, "Twice 0"),
     (0xB100, "ZeroBranch 0"),
     (0xF7FFFFFE, "DirectCall 0"),

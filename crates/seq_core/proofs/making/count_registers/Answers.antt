@@ -1,4 +1,4 @@
-use Rattle.std.proofs.Common.{◌≡◌, ◌+◌, ◌<◌, length, arith, ap, true, false}
+use Rattle.std.proofs.Common.{◌≡◌, ◌<◌, length, arith, ap, true, false}
 use Rattle.thumb_instr.specs.Operands.{has}
 use Rattle.seq_core.proofs.Made.{rest_first, rest_last, rest_has, rest_lacks}
 use Rattle.seq_core.proofs.making.count_registers.Goals as goal

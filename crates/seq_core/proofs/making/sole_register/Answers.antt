@@ -1,4 +1,4 @@
-use Rattle.std.proofs.Common.{◌≡◌, ◌+◌, ◌<◌, ◌++◌, ◌∙◌, Some, arith, sym, ap, true, false, is_some}
+use Rattle.std.proofs.Common.{◌≡◌, ◌+◌, ◌++◌, ◌∙◌, sym, ap, true, false}
 use Rattle.thumb_instr.specs.Operands.{has}
 use Rattle.thumb_table.specs.Effects.{registers}
 use Rattle.seq_core.proofs.Made.{held, rest, rest_first, rest_last, rest_has, rest_lacks, second_found, first_found, all_found}
