@@ -21,7 +21,7 @@ pub record IsVisit (o : ObjectParts) (v : Visit) : Type 0 where
   pub goes : v.goes_on ≡ true → GoesOn o v.node v.instr
   pub ends : v.goes_on ≡ false → EndsAt o v.node v.instr
 
--- a visit of the node, or why none is
+-- a visit of this node
 pub record IsVisitAt (o : ObjectParts) (n : Node) (v : Visit) : Type 0 where
   pub node : v.node ≡ n
   pub is : IsVisit o v
