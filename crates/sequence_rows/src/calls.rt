@@ -10,7 +10,7 @@ use std::alloc::{AllocError, Global};
 use std::process::Abort;
 use std::test::Fail;
 use thumb_encode::{Code, Width, encode};
-use thumb_instr::{Cond, Instr, Reg};
+use thumb_instr::{Cond, Instr};
 
 /// The codes of an instruction in one and in two halfwords.
 fn codes(alloc: Global, i: &Instr) -> Result<String, AllocError> {
@@ -38,9 +38,11 @@ fn told(alloc: Global, s: &Seq) -> Result<String, AllocError> {
 /// Finds the sequence that a builder makes of a row's instruction.
 fn builds<B: Builder>(rt: &impl Abort, alloc: Global, b: &B, row: &Row) -> Result<(), Fail> {
     let i = instruction(rt, row.0);
-    let copy = [register(rt, 12)];
-    let scratch: &[Reg] = if row.1 { &copy } else { &[] };
-    let s = built(rt, b, &i, scratch, row.2);
+    let s = if row.1 {
+        built(rt, b, &i, &[register(rt, 12)], row.2)
+    } else {
+        built(rt, b, &i, &[], row.2)
+    };
     assert_eq!(rt; told(alloc, &s)?.as_str(), row.3, "{:x}", row.0);
     Ok(())
 }
@@ -118,12 +120,15 @@ fn names_classes_and_needs(rt: HostRuntime) {
 fn adds_landings(rt: HostRuntime) {
     let i = instruction(&rt, 0xF7FF_FFFE);
     let s = built(&rt, &DirectCall, &i, &[], 2);
+    let steps = s.steps().len();
+    assert!(rt; steps == 2 && s.landing() == 2, "two steps");
     let landing = with_landing(&s, 2);
     let text = told(rt.alloc(), &landing).expect(&rt, "memory");
     assert_eq!(rt;
         text.as_str(),
         "- f20f0e00 Landing 2; e000 f000b800 Target 2; de00 - Nowhere 2; 2"
     );
+    assert!(rt; landing.steps().len() == 3, "three steps");
     let under = guarded(&landing, Cond::Ne, 2);
     let text = told(rt.alloc(), &under).expect(&rt, "memory");
     assert_eq!(rt;
