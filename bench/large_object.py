@@ -1,5 +1,6 @@
 """Writes a relocatable file of about so many bytes, laid out as the canonical file of its object: data with a
-relocation for each word and a symbol for each four. Usage: large_object.py BYTES FILE"""
+relocation for each word and a symbol for each four. Usage: large_object.py BYTES FILE [PREFIX]. The names begin with
+PREFIX, s if it is left out."""
 import struct
 import sys
 
@@ -11,7 +12,8 @@ def main():
     words = int(sys.argv[1]) // 18
     count = max(1, words // 4)
     data = bytes(4 * words)
-    names = [b"s%d" % k for k in range(count)]
+    prefix = sys.argv[3].encode() if len(sys.argv) > 3 else b"s"
+    names = [prefix + b"%d" % k for k in range(count)]
     strtab, at = table(names)
     symtab = bytes(16) + b"".join(
         struct.pack("<IIIBBH", at[n], 4 * k, 4, 1 << 4 | 1, 0, 1) for k, n in enumerate(names))
