@@ -1,6 +1,6 @@
 -- How the reached nodes are found: from the named places on, by the nodes that each one leads to. A start at which
 -- control comes in with a clear IT state waits for its turn; the nodes of an IT block have theirs behind the IT.
-use Rattle.std.specs.Prelude.{◌≡◌, ◌≤◌, ◌<◌, ◌^◌, ◌+◌, ◌↔◌, ◌⊎◌, ℕ, Bool, true, not, [], ◌∷◌, Option, Some, None, Contains, count_by, length, slice_get}
+use Rattle.std.specs.Prelude.{◌≡◌, ◌≤◌, ◌<◌, ◌^◌, ◌+◌, ◌↔◌, ◌⊎◌, ℕ, true, not, [], ◌∷◌, Option, Some, None, Contains, count_by, length, slice_get}
 use Rattle.std.specs.BTreeSet.{contains}
 use Rattle.std.specs.List.Sorted.{IsStrictlySortedBy}
 use Rattle.elf_model.specs.Objects.{ObjectParts}
@@ -40,10 +40,6 @@ pub record IsStartAimed (o : ObjectParts) (n : Node) (i : Instr) (m : Node) : Ty
 -- what a node leads to
 abbrev pub Leads : ObjectParts → Node → Node → Type 0
 Leads o n m = LeadsOn o n m ⊎ LeadsAway o n m
-
--- a set that has exactly the reached nodes
-abbrev pub HasReached : ObjectParts → (Node → Bool) → Type 0
-HasReached o is_in = (n : Node) → (is_in n ≡ true) ↔ IsReached o n
 
 -- the starts in order, with a mark and room in the queue for each
 pub record IsShaped (w : Walk) : Type 0 where
