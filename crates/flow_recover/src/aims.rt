@@ -18,7 +18,7 @@ use reloc_places::target_of;
 use thumb_instr::Instr;
 
 /// Where a branch or a call leads.
-#[derive(Clone, Copy, Debug, PartialEq, Eq)]
+#[derive(Clone, Copy)]
 pub(crate) enum Aim {
     /// To an offset of its own section, by its own number or by a local symbol.
     Near(u32),

@@ -21,7 +21,7 @@ use thumb_instr::Instr;
 
 /// The instructions of an IT block: where the first one starts, the end of the range that the IT stands
 /// in, and how many they are.
-#[derive(Clone, Copy, Debug)]
+#[derive(Clone, Copy)]
 struct Block {
     start: u32,
     end: u32,

@@ -15,7 +15,7 @@ use std::collections::{BTreeMap, BTreeSet};
 
 /// By section and offset: instruction starts, with the end of their range; words of data in code
 /// sections; functions; and relocations.
-#[derive(Debug, Drop)]
+#[derive(Drop)]
 pub(crate) struct Chart {
     pub(crate) starts: BTreeMap<(u32, u32), u32>,
     pub(crate) words: BTreeSet<(u32, u32)>,

@@ -22,6 +22,7 @@ mod recovery;
 mod references;
 mod reloc_faults;
 mod visits;
+mod walks;
 
 pub use code_ranges::{
     Range, Span, all_ranges, code_ranges, first_of, objects_have_one_list_of_ranges,

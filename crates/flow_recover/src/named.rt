@@ -15,7 +15,7 @@ use reloc_places::even;
 use std::alloc::{AllocError, Global};
 
 /// A place that control is sent to, and the place that sends it there. At an entry, it enters.
-#[derive(Clone, Copy, Debug)]
+#[derive(Clone, Copy)]
 pub(crate) struct Claim {
     pub(crate) section: u32,
     pub(crate) offset: u32,

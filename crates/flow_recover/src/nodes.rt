@@ -1,7 +1,7 @@
 //! Instruction starts as control reaches them.
 
 /// An instruction start of a section, with the IT state that control has there (ARMv7-M ARM, A7.3).
-#[derive(Clone, Copy, Debug, PartialEq, Eq, PartialOrd, Ord)]
+#[derive(Clone, Copy, PartialEq, Eq, PartialOrd, Ord)]
 pub(crate) struct Node {
     pub(crate) section: u32,
     pub(crate) offset: u32,

@@ -12,7 +12,7 @@ use elf_model::{Home, Limit, Object, Reloc, is_code};
 use reloc_places::{is_half, is_jump, is_word, target_of, value_of};
 
 /// A number that is counted from the beginning of a section.
-#[derive(Clone, Copy, Debug)]
+#[derive(Clone, Copy)]
 pub(crate) struct Address {
     pub(crate) section: u32,
     pub(crate) value: u32,

@@ -22,7 +22,7 @@ use thumb_instr::{BadInstr, Instr};
 
 /// An instruction that control reaches: where the one behind it stands, where it leads if it has an offset,
 /// and whether control goes on behind it.
-#[derive(Clone, Copy, Debug)]
+#[derive(Clone, Copy)]
 pub(crate) struct Visit {
     pub(crate) node: Node,
     pub(crate) instr: Instr,
