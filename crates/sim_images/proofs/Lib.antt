@@ -1,0 +1,11 @@
+pub mod RawBytes
+pub mod PartFacts
+pub mod ImageFacts
+pub mod Alignments
+pub mod EachLinked
+pub mod RightPlaces
+pub mod Standing
+pub mod StandingLinked
+pub mod PlainWords
+pub mod Words
+pub mod Sequences
