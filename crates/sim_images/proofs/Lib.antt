@@ -9,3 +9,15 @@ pub mod StandingLinked
 pub mod PlainWords
 pub mod Words
 pub mod Sequences
+pub mod LinkNumbers
+pub mod Meant
+pub mod DataStay
+pub mod NamesAlike
+pub mod HomesAlike
+pub mod ValuesAlike
+pub mod LinksMeet
+pub mod EntriesAlike
+pub mod HaveImages
+pub mod PartsOnce
+pub mod DataMeet
+pub mod PointsMeet
