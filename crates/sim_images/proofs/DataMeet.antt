@@ -39,18 +39,18 @@ link_here objects at l il =
     let same : f.object ≡ l.object = same_Some f.object l.object (sym f.there ∙ il.object) in
     record { object = il.object; section = subst (λ (z : ObjectParts). slice_get z.sections l.reloc.section ≡ Some l.part.section) same f.section; part = il.part }
 
-four_wide : (k : RelocKind) → place_width k ≤ 4
+pub four_wide : (k : RelocKind) → place_width k ≤ 4
 four_wide k = go ((reloc_code k == 102) || (reloc_code k == 103))
   where
     go : (b : Bool) → cond b 2 4 ≤ 4
     go true = omega arith
     go false = omega arith
 
-record Covers (l : Link) (a : ℕ) : Type 0 where
+pub record Covers (l : Link) (a : ℕ) : Type 0 where
   pub low : place_of l ≤ a
   pub high : a < place_of l + place_width l.reloc.kind
 
-covers_is : (l : Link) (a : ℕ) → covers a l ≡ true → Covers l a
+pub covers_is : (l : Link) (a : ℕ) → covers a l ≡ true → Covers l a
 covers_is l a y =
     let p = and_parts (nat_le (place_of l) a) (nat_lt a (place_of l + place_width l.reloc.kind)) y in
     record { low = leb-true (place_of l) a p.0; high = ltb-true a (place_of l + place_width l.reloc.kind) p.1 }

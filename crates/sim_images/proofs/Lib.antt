@@ -21,3 +21,6 @@ pub mod HaveImages
 pub mod PartsOnce
 pub mod DataMeet
 pub mod PointsMeet
+pub mod OneCode
+pub mod CoveredPlaces
+pub mod OneImage

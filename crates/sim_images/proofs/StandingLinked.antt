@@ -39,10 +39,10 @@ use Rattle.reloc_places.proofs.StartFacts.{start_before, start_behind}
 abbrev answer : Instr → Answer
 answer i = Ok i
 
-same_Ok : (i j : Instr) → answer i ≡ answer j → i ≡ j
+pub same_Ok : (i j : Instr) → answer i ≡ answer j → i ≡ j
 same_Ok i j e = cc
 
-no_word : (k : RelocKind) (b : Bool) (i : Instr) → fits_kind k b i ≡ true → is_word k ≡ false
+pub no_word : (k : RelocKind) (b : Bool) (i : Instr) → fits_kind k b i ≡ true → is_word k ≡ false
 no_word Abs32 b i h = absurd (both_ways false refl h)
 no_word Target1 b i h = absurd (both_ways false refl h)
 no_word (Other n) b i h = absurd (both_ways false refl h)
@@ -63,6 +63,21 @@ same_parts l m a b c d e f g = same
     same : with_parts l.file l.object l.number l.reloc l.part l.symbol l.meant ≡ with_parts m.file m.object m.number m.reloc m.part m.symbol m.meant
     same = cc
 
+-- a relocation has one link
+pub same_link : (objects : List ObjectParts) (at : Placement) (l m : Link) → IsLink objects at l → IsLink objects at m → l.file ≡ m.file → l.number ≡ m.number → l ≡ m
+same_link objects at l m a b file number =
+    let one : l.object ≡ m.object = same_Some l.object m.object (sym a.object ∙ (ap (λ (n : ℕ). slice_get objects n) file ∙ b.object)) in
+    let reloc : l.reloc ≡ m.reloc = same_Some l.reloc m.reloc (sym a.reloc ∙ (ap (λ (z : ObjectParts). slice_get z.relocs l.number) one
+    ∙ (ap (λ (n : ℕ). slice_get m.object.relocs n) number ∙ b.reloc))) in
+    let section : l.reloc.section ≡ m.reloc.section = ap (λ (r : Reloc). r.section) reloc in
+    let part : l.part ≡ m.part = same_Some l.part m.part (sym a.part ∙ (ap (λ (n : ℕ). part_of (all_placed objects at) n l.reloc.section) file
+    ∙ (ap (λ (n : ℕ). part_of (all_placed objects at) m.file n) section ∙ b.part))) in
+    let symbol : l.symbol ≡ m.symbol = same_Some l.symbol m.symbol (sym a.symbol ∙ (ap (λ (z : ObjectParts). slice_get z.symbols l.reloc.symbol) one
+    ∙ (ap (λ (r : Reloc). slice_get m.object.symbols r.symbol) reloc ∙ b.symbol))) in
+    let what : l.meant ≡ m.meant = same_Some l.meant m.meant (sym a.meant ∙ (ap (λ (n : ℕ). meant objects n l.reloc.symbol l.symbol) file
+    ∙ (ap (λ (r : Reloc). meant objects m.file r.symbol l.symbol) reloc ∙ (ap (λ (s : Symbol). meant objects m.file m.reloc.symbol s) symbol ∙ b.meant)))) in
+    same_parts l m file one number reloc part symbol what
+
 -- links of one place are one
 one_link : (objects : List ObjectParts) (at : Placement) → CanLink objects at → (l m : Link) → IsLink objects at l → IsLink objects at m → l.file ≡ m.file → l.reloc.section ≡ m.reloc.section
     → l.reloc.offset ≡ m.reloc.offset → l ≡ m
@@ -73,22 +88,13 @@ one_link objects at can l m a b file section offset =
     let right_l : IsRight m.object l.number l.reloc = subst (λ (z : ObjectParts). IsRight z l.number l.reloc) one (can.right l.file l.number l.object l.reloc (record { object = a.object; reloc = a.reloc })) in
     let wide_l = place_least l.reloc.kind in
     let wide_m = place_least m.reloc.kind in
-    let number : l.number ≡ m.number =
     elim (cases_order l.number m.number) [
-      | inl e ↦ e
+      | inl e ↦ same_link objects at l m a b file e
       | inr w ↦ elim w [
         | inl lt ↦ let h = right_m.alone l.number l.reloc lt there section in absurd (omega arith)
         | inr lt ↦ let h = right_l.alone m.number m.reloc lt b.reloc (sym section) in absurd (omega arith)
       ]
-    ] in
-    let reloc : l.reloc ≡ m.reloc = same_Some l.reloc m.reloc (sym there ∙ (ap (λ (n : ℕ). slice_get m.object.relocs n) number ∙ b.reloc)) in
-    let part : l.part ≡ m.part = same_Some l.part m.part (sym a.part ∙ (ap (λ (n : ℕ). part_of (all_placed objects at) n l.reloc.section) file
-    ∙ (ap (λ (n : ℕ). part_of (all_placed objects at) m.file n) section ∙ b.part))) in
-    let symbol : l.symbol ≡ m.symbol = same_Some l.symbol m.symbol (sym a.symbol ∙ (ap (λ (z : ObjectParts). slice_get z.symbols l.reloc.symbol) one
-    ∙ (ap (λ (r : Reloc). slice_get m.object.symbols r.symbol) reloc ∙ b.symbol))) in
-    let what : l.meant ≡ m.meant = same_Some l.meant m.meant (sym a.meant ∙ (ap (λ (n : ℕ). meant objects n l.reloc.symbol l.symbol) file
-    ∙ (ap (λ (r : Reloc). meant objects m.file r.symbol l.symbol) reloc ∙ (ap (λ (s : Symbol). meant objects m.file m.reloc.symbol s) symbol ∙ b.meant)))) in
-    same_parts l m file one number reloc part symbol what
+    ]
 
 -- the mark at an address, where all that stand there are one
 mark_is : (marks : List PlaceMark) (a : ℕ) (k : Mark) → ((m : PlaceMark) → Contains marks m → m.at ≡ a → m.mark ≡ k) → (k ≡ Plain) ⊎ Contains marks (record { at = a; mark = k }) → mark_at marks a ≡ k

@@ -1,6 +1,6 @@
 -- Laws on one image: its parts, its relocations, and the bytes that no relocation has.
-use Rattle.std.specs.Prelude.{◌≡◌, ◌<◌, ◌≤◌, ℕ, ◌+◌, ◌-◌, ◌%◌, ◌||◌, true, false, List, length, get_or, Some, slice_get}
-use Rattle.std.specs.List.{list_all}
+use Rattle.std.specs.Prelude.{◌≡◌, ◌<◌, ◌≤◌, ℕ, ◌+◌, ◌-◌, ◌%◌, ◌||◌, true, false, List, length, get_or, nat_lt, Some, slice_get}
+use Rattle.std.specs.List.{list_all, AllPass}
 use Rattle.elf_model.specs.declared.objects.Section.{Section}
 use Rattle.elf_model.specs.declared.objects.Reloc.{Reloc}
 use Rattle.elf_model.specs.declared.refusals.Spot.{Spot}
@@ -26,6 +26,12 @@ pub record Here (objects : List ObjectParts) (at : Placement) (i : ℕ) (o : Obj
 -- Objects that have an image have no fault.
 abbrev pub NotBoth : Type 0
 NotBoth = (objects : List ObjectParts) (at : Placement) (image : Image) (spot : Spot) → IsImage objects at image → LinkFault objects at spot → ⊥
+
+-- There is one image at most. Only as halfwords does the definition see the bytes of linked instructions.
+abbrev pub OneImage : Type 0
+OneImage =
+    (objects : List ObjectParts) (at : Placement) (a b : Image) → AreObjects objects → AllPass (λ n. nat_lt n 256) a.code.bytes → AllPass (λ n. nat_lt n 256) b.code.bytes
+    → IsImage objects at a → IsImage objects at b → a ≡ b
 
 -- Each section of memory has its part.
 abbrev pub HasPart : Type 0

@@ -1,11 +1,16 @@
 //! Laws of images. The functions do nothing: their contracts are the laws.
 
-ghost use Rattle.sim_images.specs.ImageLaws.{CodeAligned, CodeAsIs, CodeInside, DataAsIs, DataInside, EachLinked, HasPart, NotBoth, PartsApart};
+ghost use Rattle.sim_images.specs.ImageLaws.{CodeAligned, CodeAsIs, CodeInside, DataAsIs, DataInside, EachLinked, HasPart, NotBoth, OneImage, PartsApart};
 ghost use Rattle.sim_images.specs.CodeLaws.{SequenceStands, StandsAsIs, StandsLinked, WordAsIs, WordLinked};
 
 /// Objects that have an image have no fault.
 pub fn images_have_no_fault()
     ensures { NotBoth }
+{}
+
+/// A list of objects has one image at most at a placement, whose bytes of code are bytes.
+pub fn objects_have_one_image()
+    ensures { OneImage }
 {}
 
 /// Each section of code or data has its part.
