@@ -1,7 +1,7 @@
 -- Laws on one image that are proved: where parts are, and bytes that no relocation has.
-use Rattle.std.specs.Prelude.{◌≡◌, ◌≤◌, ℕ, ◌+◌, ◌-◌, ◌==◌, ◌&&◌, not, max, Bool, true, false, cond, List, length, replicate, get_or, Contains, refl}
-use Rattle.std.proofs.Common.{arith, inl, inr, ap, sym, ◌∙◌, subst}
-use Rattle.std.proofs.lemmas.Bool.{both_ways, and_parts, eqb-true}
+use Rattle.std.specs.Prelude.{◌≡◌, ◌≤◌, ℕ, ◌+◌, ◌-◌, ◌==◌, ◌&&◌, max, true, cond, List, length, replicate, get_or, Contains}
+use Rattle.std.proofs.Common.{arith, inl, inr, ap, sym, ◌∙◌}
+use Rattle.std.proofs.lemmas.Bool.{and_parts, eqb-true}
 use Rattle.elf_model.specs.declared.objects.Section.{Section}
 use Rattle.elf_model.specs.Constants.{nobits, progbits}
 use Rattle.elf_model.specs.Fields.{byte_at}
@@ -11,6 +11,7 @@ use Rattle.thumb_table.specs.declared.placements.Placement.{Placement}
 use Rattle.thumb_table.specs.Layouts.{Placed, all_chosen, code_parts, data_parts, part_bytes, code_bytes_of, data_bytes_of}
 use Rattle.thumb_table.specs.Links.{covers}
 use Rattle.sim_images.specs.ImageLaws.{NotBoth, PartsApart, CodeInside, DataInside, CodeAsIs, DataAsIs}
+use Rattle.sim_images.proofs.RightPlaces.{no_data}
 use Rattle.sim_images.proofs.RawBytes.{begins, ends_inside, raw_byte}
 use Rattle.sim_images.proofs.PartFacts.{IsPartOf, part_is, apart, is_free, code_good, data_good}
 
@@ -26,10 +27,7 @@ parts_apart objects at sound placement can i j k l o q p r a b x y lx ly e =
     let offset : x ≡ y = omega arith in
     (sym pa.file ∙ (ap (λ (z : Placed). z.object) same ∙ pb.file), sym pa.index ∙ (ap (λ (z : Placed). z.index) same ∙ pb.index), offset)
 
--- code is no data, and has its bytes
-no_data : (s : Section) → is_code s ≡ true → is_data s ≡ true → ⊥
-no_data s c d = let b = and_parts (is_alloc s.flags) (not (is_code s)) d in both_ways false refl (subst (λ (z : Bool). not z ≡ true) c b.1)
-
+-- code has its bytes
 pub code_has_bytes : (s : Section) → is_code s ≡ true → part_bytes s ≡ s.bytes
 code_has_bytes s c =
     let k : s.kind ≡ progbits = eqb-true s.kind progbits (and_parts (s.kind == progbits) (is_alloc s.flags) (and_parts ((s.kind == progbits) && is_alloc s.flags) (is_exec s.flags) c).0).0 in

@@ -1,7 +1,7 @@
 -- Two links of the plain and of the hardened list meet.
-use Rattle.std.specs.Prelude.{◌≡◌, ◌<◌, ◌≤◌, ℕ, ◌+◌, ◌-◌, ◌%◌, ◌^◌, ◌==◌, nat_lt, ◌&&◌, ◌||◌, Bool, true, false, cond, List, length, Option, Some, None, slice_get, refl}
+use Rattle.std.specs.Prelude.{◌≡◌, ◌<◌, ◌≤◌, ℕ, ◌+◌, ◌-◌, ◌%◌, ◌^◌, ◌==◌, ◌&&◌, ◌||◌, Bool, true, false, cond, List, length, Option, Some, None, slice_get, refl}
 use Rattle.std.proofs.Common.{arith, inl, inr, ap, sym, ◌∙◌, subst}
-use Rattle.std.proofs.lemmas.Bool.{cases_Bool, both_ways, and_right, or_right, ltb-true, ltb-false, eq-eqb, cond-true, cond-false}
+use Rattle.std.proofs.lemmas.Bool.{cases_Bool, both_ways, and_right, or_right, eq-eqb, cond-true, cond-false}
 use Rattle.std.proofs.lemmas.Option.{same_Some}
 use Rattle.elf_model.specs.declared.objects.Section.{Section}
 use Rattle.elf_model.specs.declared.objects.Symbol.{Symbol}
@@ -16,12 +16,11 @@ use Rattle.code_ranges.specs.CodeRanges.{holds_code}
 use Rattle.thumb_table.specs.Layouts.{Placed, IsPlacement, all_placed, part_of, home_start, data_bytes_of}
 use Rattle.thumb_table.specs.Names.{Defined, is_defined, meant, is_in_code, is_function, address_of, stands}
 use Rattle.thumb_table.specs.Links.{Link, IsLink, leads_to_code, addend_of, sum_of, full, target_of as linked_target, is_other, is_in_range}
-use Rattle.thumb_table.specs.LinkFaults.{high_end}
 use Rattle.thumb_table.specs.Images.{CanLink}
 use Rattle.sim_images.specs.ImageLaws.{AreObjects, Here}
 use Rattle.sim_images.specs.Counterparts.{Places, IsMoved, IsCounterpart, AreAnswers, LeadsTo, IsFunctionAt, LeadsIntoCode, Answers, by_symbol, by_target, SameSense, zero_addend, IsAccepted}
 use Rattle.sim_images.specs.PairLaws.{Moves, MeantAlike, ValuesMeet, number, address, branch}
-use Rattle.sim_images.proofs.PartFacts.{code_fits}
+use Rattle.thumb_table.proofs.PlainImages.{has_room}
 use Rattle.sim_images.proofs.EachLinked.{has_part}
 use Rattle.sim_images.proofs.NamesAlike.{names_meet}
 use Rattle.sim_images.proofs.DataStay.{same_sort}
@@ -389,12 +388,9 @@ module _ (ins outs : List ObjectParts) (at : Placement) (moved : ℕ → Places)
 -- what the plain list leaves of room
 pub room_of : (objects : List ObjectParts) (at : Placement) → CanLink objects at → Room objects at
 room_of objects at can =
-    let data_length : ℕ = length (data_bytes_of objects at) in
-    let low : at.base + at.room ≤ 0x7FFFF000 = elim (cases_Bool (nat_lt 0x7FFFF000 (at.base + at.room + length (data_bytes_of objects at)))) [
-      | inl y ↦ absurd (can.sound _ (high_end (ltb-true 0x7FFFF000 (at.base + at.room + length (data_bytes_of objects at)) y)))
-      | inr n ↦ let le = ltb-false 0x7FFFF000 (at.base + at.room + length (data_bytes_of objects at)) n in omega arith
-    ] in
-    record { low = low; fits = code_fits objects at can }
+    let room = has_room objects at can in
+    let last : at.base + at.room + length (data_bytes_of objects at) ≤ 0x7FFFF000 = room.last in
+    record { low = omega arith; fits = room.code }
 
 pub values_meet : ValuesMeet
 values_meet ins outs at moved image hard so sh answers accepted is other l m il im file sense answer =

@@ -25,8 +25,9 @@ use Rattle.thumb_table.specs.Links.{Link, IsLink, place_of, value_of, covers, Re
 use Rattle.thumb_table.specs.Parts.{Image, CodeBytes, Memory}
 use Rattle.thumb_table.specs.Images.{IsImage}
 use Rattle.sim_images.specs.ImageLaws.{AreObjects, OneImage}
+use Rattle.thumb_table.proofs.PlainImages.{has_room}
 use Rattle.sim_images.proofs.RawBytes.{begins, ends_inside}
-use Rattle.sim_images.proofs.PartFacts.{part_is, in_part, code_good, data_good, code_fits}
+use Rattle.sim_images.proofs.PartFacts.{part_is, in_part, code_good, data_good}
 use Rattle.sim_images.proofs.RightPlaces.{decoded_whole, place_is, word_width, no_data}
 use Rattle.sim_images.proofs.StandingLinked.{no_word, same_Ok}
 use Rattle.sim_images.proofs.DataMeet.{four_wide, covers_is}
@@ -132,7 +133,7 @@ module _ (objects : List ObjectParts) (at : Placement) (a b : Image) (sound : Ar
               | inr datum ↦
                   let begin : at.base + at.room ≤ l.part.start = begins (λ s. s.align) (at.base + at.room) (all_chosen is_data 0 objects) (data_good objects sound) l.part datum.0 in
                   let size : length a.code.bytes ≡ length (code_bytes_of objects at) = is.code.size in
-                  let fits = code_fits objects at is.can in
+                  let fits = (has_room objects at is.can).code in
                   absurd (omega arith)
             ]
       ]
@@ -157,7 +158,7 @@ module _ (objects : List ObjectParts) (at : Placement) (a b : Image) (sound : Ar
               | inl code ↦
                   let end : l.part.start + l.part.section.size ≤ at.base + length (code_bytes_of objects at) = ends_inside (λ s. max 4 s.align) at.base (all_chosen is_code 0 objects) (code_good objects sound) l.part code.0 in
                   let wide = in_part objects at l sound c.is_link in
-                  let fits = code_fits objects at is.can in
+                  let fits = (has_room objects at is.can).code in
                   absurd (omega arith)
               | inr datum ↦
                   let begin : at.base + at.room ≤ l.part.start = begins (λ s. s.align) (at.base + at.room) (all_chosen is_data 0 objects) (data_good objects sound) l.part datum.0 in

@@ -1,53 +1,33 @@
 -- Parts of a list of objects: where they come from, that they lie apart, and that relocations stay in their own part.
-use Rattle.std.specs.Prelude.{◌≡◌, ◌<◌, ◌≤◌, ◌⊎◌, ℕ, suc, ◌+◌, ◌-◌, ◌^◌, ◌==◌, nat_lt, nat_le, ◌&&◌, not, max, Bool, true, false, cond, List, [], ◌∷◌, length, replicate, Option, Some, slice_get, Contains, refl, if◌then◌else◌}
-use Rattle.std.specs.List.{list_all, list_any}
+use Rattle.std.specs.Prelude.{◌≡◌, ◌<◌, ◌≤◌, ◌⊎◌, ℕ, suc, ◌+◌, ◌-◌, ◌==◌, nat_lt, nat_le, ◌&&◌, not, max, Bool, true, false, cond, List, [], ◌∷◌, length, replicate, Option, Some, slice_get, Contains, refl}
 use Rattle.std.proofs.Common.{arith, inl, inr, ap, sym, ◌∙◌, subst}
-use Rattle.std.proofs.lemmas.Bool.{cases_Bool, both_ways, and_parts, or_cases, eqb-true, leb-true, ltb-true, ltb-false}
+use Rattle.std.proofs.lemmas.Bool.{cases_Bool, and_parts, eqb-true, leb-true, ltb-true}
 use Rattle.std.proofs.lemmas.List.{length-replicate}
 use Rattle.std.proofs.lemmas.Option.{same_Some}
 use Rattle.elf_model.specs.declared.objects.Section.{Section}
 use Rattle.elf_model.specs.Constants.{nobits}
-use Rattle.elf_model.specs.Objects.{ObjectParts, is_object, is_section, is_placed, is_kind, is_alignment, is_name, is_dropped_name, is_kept_kind, is_writable, is_exec, has_bytes, is_code, is_data, place_width}
+use Rattle.elf_model.specs.Objects.{ObjectParts, is_object, is_section, is_placed, is_kind, is_code, is_data, place_width}
 use Rattle.thumb_table.specs.declared.placements.Placement.{Placement}
 use Rattle.thumb_table.specs.Layouts.{Placed, chosen, all_chosen, placed, part_bytes, code_parts, data_parts, all_placed, code_bytes_of, part_of}
 use Rattle.thumb_table.specs.Links.{Link, IsLink, covers, place_of}
-use Rattle.thumb_table.specs.LinkFaults.{long_code}
 use Rattle.thumb_table.specs.Images.{CanLink}
 use Rattle.sim_images.specs.ImageLaws.{AreObjects}
 use Rattle.elf_model.proofs.Elements.{contains_cases, contains_none, contains_here, contains_later, found, all_at}
 use Rattle.std.proofs.lemmas.List.Elements.{Contains-append_cases}
+use Rattle.elf_model.proofs.Sections.{section_facts}
+use Rattle.thumb_table.proofs.PlainImages.{has_room}
 use Rattle.code_ranges.proofs.ObjectFacts.{section_sound, reloc_sound}
 use Rattle.sim_images.proofs.RawBytes.{AllGood, begun, begins, ends_inside, one_part}
 
-one_of : (a : ℕ) (ks : List ℕ) → list_all (λ k. nat_le 1 (2 ^ k)) ks ≡ true → list_any (λ k. a == 2 ^ k) ks ≡ true → 0 < a
-one_of a [] l h = absurd (both_ways false refl h)
-one_of a (k ∷ ks) l h =
-    let p = and_parts (nat_le 1 (2 ^ k)) (list_all (λ k. nat_le 1 (2 ^ k)) ks) l in
-    elim (or_cases (a == 2 ^ k) (list_any (λ k. a == 2 ^ k) ks) h) [
-      | inl y ↦
-          let e : a ≡ 2 ^ k = eqb-true a (2 ^ k) y in
-          let low : 1 ≤ 2 ^ k = leb-true 1 (2 ^ k) p.0 in
-          omega arith
-      | inr n ↦ one_of a ks p.1 n
-    ]
-
-aligned : (s : Section) → is_section s ≡ true → 0 < s.align
-aligned s h =
-    let a = and_parts _ (has_bytes s) h in
-    let b = and_parts _ (not (is_exec s.flags && (s.kind == nobits))) a.0 in
-    let c = and_parts _ (not (is_writable s.flags && is_exec s.flags)) b.0 in
-    let d = and_parts _ (is_kept_kind s.kind s.flags) c.0 in
-    let e = and_parts (is_name s.name && not (is_dropped_name s.name)) (is_alignment s.align) d.0 in
-    one_of s.align (0 ∷ 1 ∷ 2 ∷ 3 ∷ 4 ∷ 5 ∷ 6 ∷ 7 ∷ 8 ∷ 9 ∷ 10 ∷ 11 ∷ 12 ∷ []) refl e.1
-
 pub sized : (s : Section) → is_section s ≡ true → length (part_bytes s) ≡ s.size
 sized s h =
-    let a = and_parts _ (has_bytes s) h in
-    let e : length s.bytes ≡ cond (s.kind == nobits) 0 s.size = eqb-true (length s.bytes) (if s.kind == nobits then 0 else s.size) a.1 in
     elim (s.kind == nobits) as (λ (b : Bool). length s.bytes ≡ cond b 0 s.size → length (cond b (replicate s.size 0) s.bytes) ≡ s.size) [
       | true ↦ λ y. length-replicate s.size 0
       | false ↦ λ y. y
-    ] e
+    ] (section_facts s h).long
+
+aligned : (s : Section) → is_section s ≡ true → 0 < s.align
+aligned s h = (section_facts s h).aligned
 
 -- where a chosen part comes from
 pub record IsChosen (sort : Section → Bool) (i j : ℕ) (sections : List Section) (q : Placed) : Type 0 where
@@ -181,20 +161,13 @@ part_is objects at i j p e =
           }
     ]
 
-pub code_fits : (objects : List ObjectParts) (at : Placement) → CanLink objects at → length (code_bytes_of objects at) ≤ at.room
-code_fits objects at can =
-    elim (cases_Bool (nat_lt at.room (length (code_bytes_of objects at)))) [
-      | inl y ↦ absurd (can.sound _ (long_code (ltb-true at.room (length (code_bytes_of objects at)) y)))
-      | inr n ↦ let le = ltb-false at.room (length (code_bytes_of objects at)) n in omega arith
-    ]
-
 -- an address is in one part
 pub apart : (objects : List ObjectParts) (at : Placement) → AreObjects objects → CanLink objects at → (i j k l : ℕ) (p r : Placed) → IsPartOf objects at i j p → IsPartOf objects at k l r
     → (x y : ℕ) → x < p.section.size → y < r.section.size → p.start + x ≡ r.start + y → p ≡ r
 apart objects at sound can i j k l p r a b x y lx ly e =
     let code = code_good objects sound in
     let datum = data_good objects sound in
-    let fits = code_fits objects at can in
+    let fits = (has_room objects at can).code in
     elim (a.sort) [
       | inl c ↦ elim (b.sort) [
         | inl d ↦ one_part (λ s. max 4 s.align) at.base (all_chosen is_code 0 objects) code p r c.0 d.0 x y lx ly e

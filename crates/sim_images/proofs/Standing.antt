@@ -27,6 +27,7 @@ use Rattle.thumb_table.specs.Effects.{lies, half_of, mark_at}
 use Rattle.thumb_table.specs.Steps.{fetch}
 use Rattle.sim_images.specs.CodeLaws.{Fetches, StandsAsIs}
 use Rattle.elf_model.proofs.Elements.{contains_here, contains_later}
+use Rattle.reloc_places.proofs.StartFacts.{length_least}
 use Rattle.sim_images.proofs.PartFacts.{part_is, apart, in_part}
 use Rattle.sim_images.proofs.ImageFacts.{code_inside, code_as_is}
 use Rattle.sim_images.proofs.RightPlaces.{decoded_whole, beside}
@@ -132,13 +133,6 @@ no_mark (m ∷ ms) a h =
       | inr n ↦ ap (λ (b : Bool). cond b m.mark (mark_at ms a)) n ∙ no_mark ms a (λ k c. h k (contains_later m ms k c))
     ]
 
-width_least : (bytes : List ℕ) (x : ℕ) → 2 ≤ length_at bytes x
-width_least bytes x = go (is_long (half_at bytes x))
-  where
-    go : (b : Bool) → 2 ≤ cond b 4 2
-    go true = omega arith
-    go false = omega arith
-
 pub place_least : (k : RelocKind) → 2 ≤ place_width k
 place_least k = go ((reloc_code k == 102) || (reloc_code k == 103))
   where
@@ -222,7 +216,7 @@ stands_as_is objects at image sound is i j o p here x end it instr start given n
         let its = part_is objects at l.file l.reloc.section l.part h.is_link.part in
         let mine = part_is objects at i j p here.part in
         let wide = in_part objects at l sound h.is_link in
-        let least = width_least (bytes_of o j) x in
+        let least = length_least (bytes_of o j) x in
         let f = fits in
         let place : m.at ≡ l.part.start + l.reloc.offset = h.place in
         let same_address : p.start + x ≡ l.part.start + l.reloc.offset = omega arith in
