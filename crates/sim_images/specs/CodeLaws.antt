@@ -44,7 +44,7 @@ StandsLinked =
     → instr_at (bytes_of l.object l.reloc.section) end l.reloc.offset it ≡ Ok instr
     → Fetches image.code (place_of l) it (renumbered (value_of (all_placed objects at) l) instr) (length_at (bytes_of l.object l.reloc.section) l.reloc.offset) (mark_of (all_placed objects at) l)
 
--- A word of a data range among code: the section's, or the linked one.
+-- A word of a data range among code that has no relocation is the section's, and has no mark.
 abbrev pub WordAsIs : Type 0
 WordAsIs =
     (objects : List ObjectParts) (at : Placement) (image : Image) → AreObjects objects → IsImage objects at image
@@ -52,6 +52,7 @@ WordAsIs =
     → (w : ℕ) → IsDataWord o j w → reloc_at o j w ≡ None
     → (bytes_at image.code.bytes (p.start + w - at.base) 4 ≡ bytes_at (bytes_of o j) w 4) × (mark_at image.code.marks (p.start + w) ≡ Plain)
 
+-- One that has is the full value, with its mark.
 abbrev pub WordLinked : Type 0
 WordLinked =
     (objects : List ObjectParts) (at : Placement) (image : Image) → AreObjects objects → IsImage objects at image
@@ -77,6 +78,7 @@ pub data Has (objects : List ObjectParts) (at : Placement) (i : ℕ) (code : Cod
       → IsLinkedInstr objects at i step.0 step.1 instr mark → Fetches code a 0 instr width mark
       → Has objects at i code (a + width) rest z → Has objects at i code a (step ∷ rest) z
 
+-- A section's sequence stands in the image.
 abbrev pub SequenceStands : Type 0
 SequenceStands =
     (objects : List ObjectParts) (at : Placement) (image : Image) → AreObjects objects → IsImage objects at image

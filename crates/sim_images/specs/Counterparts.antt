@@ -22,6 +22,7 @@ pub record IsSectionOf (s t : Section) : Type 0 where
   pub size : is_code s ≡ false → t.size ≡ s.size
   pub align : t.align ≡ (if is_code s then max 4 s.align else s.align)
 
+-- the sections of an object and of what it became
 pub record SectionsAnswer (o h : ObjectParts) : Type 0 where
   pub kept : (j : ℕ) (s : Section) → slice_get o.sections j ≡ Some s → (t : Section) × (slice_get h.sections j ≡ Some t) × IsSectionOf s t
   pub more : (j : ℕ) (t : Section) → length o.sections ≤ j → slice_get h.sections j ≡ Some t → is_alloc t.flags ≡ false
@@ -36,6 +37,7 @@ pub record IsMoved (o : ObjectParts) (moved : Places) (s t : Symbol) : Type 0 wh
   pub stays : is_in_code o s.home ≡ false → t.value ≡ s.value
   pub goes : (j : ℕ) → s.home ≡ homes.Section j → is_in_code o s.home ≡ true → moved j (even s.value) ≡ Some (even t.value)
 
+-- the number of symbols that no other object sees, which come first
 abbrev pub locals : ObjectParts → ℕ
 locals o = count_by (λ (s : Symbol). s.bind == local) o.symbols
 
@@ -57,8 +59,8 @@ pub record SymbolsAnswer (o h : ObjectParts) (moved : Places) : Type 0 where
 abbrev pub zero_addend : Reloc → ℕ
 zero_addend r = if is_jump r.kind then 2 ^ 32 - 4 else 0
 
--- A relocation and one that stands for it: by the same symbol with the same addend; or the new one leads to a function of its own, where the
--- old one led. A relocation to a symbol that other objects see, and to nothing beside it, isn't turned so: it may mean another object's symbol.
+-- A relocation that leads to a point of section j, which went to y. One to a symbol that other objects see, and to nothing beside it,
+-- isn't turned so: it may mean another object's symbol.
 pub record LeadsTo (o : ObjectParts) (moved : Places) (r : Reloc) (j y : ℕ) : Type 0 where
   pub symbol : Symbol
   pub names : slice_get o.symbols r.symbol ≡ Some symbol
@@ -67,6 +69,7 @@ pub record LeadsTo (o : ObjectParts) (moved : Places) (r : Reloc) (j y : ℕ) : 
   pub goes : moved j (if is_jump r.kind then target_of o r symbol else even (value_of o r symbol)) ≡ Some y
   pub turned : (symbol.bind ≡ local) ⊎ (addend (bytes_of o r.section) r ≡ zero_addend r → ⊥)
 
+-- symbol m of h is a function of its own at y of section j
 pub record IsFunctionAt (h : ObjectParts) (m j y : ℕ) : Type 0 where
   pub symbol : Symbol
   pub names : slice_get h.symbols m ≡ Some symbol
@@ -75,14 +78,18 @@ pub record IsFunctionAt (h : ObjectParts) (m j y : ℕ) : Type 0 where
   pub function : symbol.kind ≡ func
   pub value : symbol.value ≡ y + 1
 
+-- its symbol is in code
 abbrev pub LeadsIntoCode : ObjectParts → Reloc → Type 0
 LeadsIntoCode o r = (s : Symbol) × (slice_get o.symbols r.symbol ≡ Some s) × (is_in_code o s.home ≡ true)
 
+-- A relocation and one that stands for it: by the same symbol with the same addend; or the new one leads to a function of its own, where
+-- the old one led.
 pub data Answers (o h : ObjectParts) (moved : Places) (r q : Reloc) : Type 0 where
   by_symbol : IsCounterpart o h moved r.symbol q.symbol → addend (bytes_of h q.section) q ≡ addend (bytes_of o r.section) r
       → (LeadsIntoCode o r → addend (bytes_of o r.section) r ≡ zero_addend r) → Answers o h moved r q
   by_target : (j y : ℕ) → LeadsTo o moved r j y → IsFunctionAt h q.symbol j y → addend (bytes_of h q.section) q ≡ zero_addend q → Answers o h moved r q
 
+-- both are of branches or calls, or of one kind
 pub record SameSense (r q : Reloc) : Type 0 where
   pub jump : is_jump q.kind ≡ is_jump r.kind
   pub kind : is_jump r.kind ≡ false → q.kind ≡ r.kind
@@ -115,8 +122,7 @@ pub record DataAnswers (o h : ObjectParts) (moved : Places) : Type 0 where
   pub bytes : (j x : ℕ) (s t : Section) → slice_get o.sections j ≡ Some s → slice_get h.sections j ≡ Some t → is_code s ≡ false
       → ((k : ℕ) (r : Reloc) → slice_get o.relocs k ≡ Some r → r.section ≡ j → (x < r.offset) ⊎ (r.offset + 4 ≤ x)) → get_or t.bytes x 0 ≡ get_or s.bytes x 0
 
--- Where the plain objects have an image, so have the others, or their code is longer than the room: each of their relocations is right,
--- answers one of the plain object, and is of no short branch.
+-- Each relocation of h is right, answers one of o, and is of no short branch.
 pub record RelocsAnswer (o h : ObjectParts) (moved : Places) : Type 0 where
   pub right : (n : ℕ) (q : Reloc) → slice_get h.relocs n ≡ Some q → IsRight h n q
   pub each : (n : ℕ) (q : Reloc) → slice_get h.relocs n ≡ Some q → (k : ℕ) × (r : Reloc) × (slice_get o.relocs k ≡ Some r) × SameSense r q × Answers o h moved r q

@@ -14,6 +14,7 @@ use Rattle.thumb_table.specs.Links.{Link, IsLink, covers, is_in_range}
 use Rattle.thumb_table.specs.LinkFaults.{IsReloc, LinkFault}
 use Rattle.thumb_table.specs.Images.{CanLink, IsImage}
 
+-- each of them is an object
 abbrev pub AreObjects : List ObjectParts → Type 0
 AreObjects objects = list_all is_object objects ≡ true
 
@@ -46,7 +47,7 @@ PartsApart =
     → (i j k l : ℕ) (o q : ObjectParts) (p r : Placed) → Here objects at i o j p → Here objects at k q l r
     → (x y : ℕ) → x < p.section.size → y < r.section.size → p.start + x ≡ r.start + y → (i ≡ k) × (j ≡ l) × (x ≡ y)
 
--- Parts lie in the image.
+-- Parts of code lie in the code of the image.
 abbrev pub CodeInside : Type 0
 CodeInside =
     (objects : List ObjectParts) (at : Placement) (image : Image) → AreObjects objects → IsImage objects at image
@@ -59,13 +60,14 @@ CodeAligned =
     (objects : List ObjectParts) (at : Placement) → AreObjects objects → IsPlacement at
     → (i j : ℕ) (o : ObjectParts) (p : Placed) → Here objects at i o j p → is_code p.section ≡ true → p.start % 4 ≡ 0
 
+-- Parts of data lie in its data.
 abbrev pub DataInside : Type 0
 DataInside =
     (objects : List ObjectParts) (at : Placement) (image : Image) → AreObjects objects → IsImage objects at image
     → (i j : ℕ) (o : ObjectParts) (p : Placed) → Here objects at i o j p → is_data p.section ≡ true
     → (image.memory.base ≤ p.start) × (p.start + p.section.size ≤ image.memory.base + length image.memory.cells)
 
--- Each relocation of an image is a link, and in range.
+-- Relocation k of object i is a link, and in range.
 pub record Linked (objects : List ObjectParts) (at : Placement) (i k : ℕ) (o : ObjectParts) (r : Reloc) : Type 0 where
   pub link : Link
   pub is_link : IsLink objects at link
@@ -73,6 +75,7 @@ pub record Linked (objects : List ObjectParts) (at : Placement) (i k : ℕ) (o :
   pub number : link.number ≡ k
   pub range : is_in_range (all_placed objects at) link ≡ true
 
+-- Each relocation of an image is.
 abbrev pub EachLinked : Type 0
 EachLinked =
     (objects : List ObjectParts) (at : Placement) (image : Image) → AreObjects objects → IsImage objects at image

@@ -41,7 +41,7 @@ DataStays =
     (ins outs : List ObjectParts) (at : Placement) (moved : ℕ → Places) → AreAnswers ins outs moved
     → (i j : ℕ) (o h : ObjectParts) (p q : Placed) → Here ins at i o j p → Here outs at i h j q → is_code p.section ≡ false → q.start ≡ p.start
 
--- A name stands for counterparts, and a relocation for another symbol than its own in both lists or in none.
+-- two symbols, counterparts in objects of one number
 pub record MeantAlike (ins outs : List ObjectParts) (moved : ℕ → Places) (d e : Defined) : Type 0 where
   pub object : ObjectParts
   pub twin : ObjectParts
@@ -50,6 +50,7 @@ pub record MeantAlike (ins outs : List ObjectParts) (moved : ℕ → Places) (d 
   pub file : e.object ≡ d.object
   pub same : IsCounterpart object twin (moved d.object) d.index e.index
 
+-- A symbol and its counterpart mean counterparts.
 abbrev pub NamesMeet : Type 0
 NamesMeet =
     (ins outs : List ObjectParts) (moved : ℕ → Places) → AreObjects ins → AreObjects outs → AreAnswers ins outs moved
@@ -65,6 +66,7 @@ pub data SameValue (ins outs : List ObjectParts) (at : Placement) (moved : ℕ �
       → full (all_placed ins at) l ≡ a + 1 → full (all_placed outs at) m ≡ b + 1 → Moves ins outs at moved a b → SameValue ins outs at moved l m
   branch : is_jump l.reloc.kind ≡ true → Moves ins outs at moved (linked_target (all_placed ins at) l) (linked_target (all_placed outs at) m) → SameValue ins outs at moved l m
 
+-- Links that answer each other come to that.
 abbrev pub ValuesMeet : Type 0
 ValuesMeet =
     (ins outs : List ObjectParts) (at : Placement) (moved : ℕ → Places) (image hard : Image) → AreObjects ins → AreObjects outs → AreAnswers ins outs moved
@@ -72,11 +74,12 @@ ValuesMeet =
     → (l m : Link) → IsLink ins at l → IsLink outs at m → m.file ≡ l.file → SameSense l.reloc m.reloc → Answers l.object m.object (moved l.file) l.reloc m.reloc
     → SameValue ins outs at moved l m
 
--- Bytes of data are the same up to addresses of code.
+-- A byte of data and another are the same, but that a piece of a point's address is one of its place.
 abbrev pub SamePiece : List ObjectParts → List ObjectParts → Placement → (ℕ → Places) → Option Piece → ℕ → ℕ → Type 0
 SamePiece ins outs at moved None b h = h ≡ b
 SamePiece ins outs at moved (Some p) b h = (a : ℕ) × (c : ℕ) × (p.mark ≡ mark.Entry (a + 1)) × Moves ins outs at moved a c × (h ≡ byte_of p.index (c + 1))
 
+-- Bytes of data are the same up to addresses of code.
 abbrev pub DataMeets : Type 0
 DataMeets =
     (ins outs : List ObjectParts) (at : Placement) (moved : ℕ → Places) (image hard : Image) → AreObjects ins → AreObjects outs → AreAnswers ins outs moved
@@ -99,6 +102,7 @@ EntriesBack =
     → IsImage ins at image → IsImage outs at hard → (name : List ℕ) (b : ℕ) → entry_of hard.entries name ≡ Some (b + 1)
     → (a : ℕ) × (entry_of image.entries name ≡ Some (a + 1)) × Moves ins outs at moved a b
 
+-- Where the plain objects can be linked, so can the others, or their code is longer than the room.
 abbrev pub HaveImage : Type 0
 HaveImage =
     (ins outs : List ObjectParts) (at : Placement) (moved : ℕ → Places) → AreObjects ins → AreObjects outs → AreAnswers ins outs moved
@@ -115,6 +119,7 @@ pub record PointMeets (ins outs : List ObjectParts) (at : Placement) (image hard
   pub point : Fetches image.code a it linked width mark
   pub unit : Has outs at i hard.code b steps end
 
+-- So it is of each point, whatever its unit is.
 abbrev pub PointsMeet : Type 0
 PointsMeet =
     (ins outs : List ObjectParts) (at : Placement) (moved : ℕ → Places) (image hard : Image) → AreObjects ins → AreObjects outs → AreAnswers ins outs moved
