@@ -64,9 +64,6 @@ answer i = Ok i
 module _ (objects : List ObjectParts) (at : Placement) (a b : Image) (sound : AreObjects objects) (all : AreBytes a.code.bytes) (too : AreBytes b.code.bytes) (is : IsImage objects at a) (also : IsImage objects at b) where
   -- at a relocation in code
   module _ (l : Link) (il : IsLink objects at l) (code : is_code l.part.section ≡ true) where
-    n : ℕ
-    n = place_of l - at.base
-
     section_there : slice_get l.object.sections l.reloc.section ≡ Some l.part.section
     section_there =
         let h = part_is objects at l.file l.reloc.section l.part il.part in
