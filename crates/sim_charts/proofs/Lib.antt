@@ -16,3 +16,4 @@ pub mod ExampleTwins
 pub mod ExampleLinked
 pub mod ExampleRun
 pub mod OneCopy
+pub mod Starts

@@ -12,3 +12,4 @@ pub mod Maps
 pub mod Codes
 pub mod Example
 pub mod Empty
+pub mod Starts

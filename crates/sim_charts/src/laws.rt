@@ -7,6 +7,7 @@ ghost use Rattle.sim_charts.specs.Charts.{Chart};
 ghost use Rattle.sim_charts.specs.Empty.{EmptyUnitsWork};
 ghost use Rattle.sim_charts.specs.Example.{ExampleEnds, ExampleIsLinked, ExampleRuns, OneCopyDoesOnce, OneCopyIsRefused};
 ghost use Rattle.sim_charts.specs.Simulates.{EndsAlike, EveryMoment, PairsEndAlike, StopsAlike};
+ghost use Rattle.sim_charts.specs.Starts.{CallsStartAlike};
 ghost use Rattle.sim_charts.specs.Words.{IsTaking};
 
 /// Calls end alike, for any number of copies and of results, and wherever steps may be skipped.
@@ -27,6 +28,11 @@ pub fn every_moment()
 /// A trap stops both.
 pub fn traps_stop_alike()
     ensures { StopsAlike }
+{}
+
+/// Calls start alike, from memory that is the same and with the same arguments.
+pub fn calls_start_alike()
+    ensures { CallsStartAlike }
 {}
 
 /// What stands for an address is determined by a proper chart, and both are odd and of 31 bits.

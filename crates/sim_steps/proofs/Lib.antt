@@ -12,3 +12,4 @@ pub mod Making
 pub mod Jumping
 pub mod Straight
 pub mod ExampleMet
+pub mod Linking

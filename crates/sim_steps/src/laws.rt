@@ -1,6 +1,7 @@
 //! The law of ordinary steps. The functions do nothing: their contracts are the laws.
 
 ghost use Rattle.sim_steps.specs.Example.{ExampleIsMet, HalvesAreMet};
+ghost use Rattle.sim_steps.specs.Met.{MetImagesAreLinked};
 ghost use Rattle.sim_steps.specs.Steps.{OrdinaryStepsAreAlike};
 
 /// An ordinary step at a point of a proper chart is alike in both runs, where the chart gives of its instruction
@@ -14,4 +15,9 @@ pub fn ordinary_steps_are_alike()
 pub fn charts_meet_what_is_asked()
     ensures calls { ExampleIsMet }
     ensures halves { HalvesAreMet }
+{}
+
+/// So two images are linked whose points meet what is asked of them, and whose units work.
+pub fn met_images_are_linked()
+    ensures { MetImagesAreLinked }
 {}
