@@ -13,3 +13,4 @@ pub mod Jumping
 pub mod Straight
 pub mod ExampleMet
 pub mod Linking
+pub mod Units

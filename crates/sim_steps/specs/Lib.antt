@@ -2,3 +2,4 @@ pub mod Facts
 pub mod Steps
 pub mod Example
 pub mod Met
+pub mod Units
