@@ -14,3 +14,7 @@ pub mod Straight
 pub mod ExampleMet
 pub mod Linking
 pub mod Units
+pub mod RowsPlaced
+pub mod HalvesPlaced
+pub mod FullsPlaced
+pub mod Placed

@@ -3,3 +3,4 @@ pub mod Steps
 pub mod Example
 pub mod Met
 pub mod Units
+pub mod Placed

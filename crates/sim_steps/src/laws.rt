@@ -2,6 +2,7 @@
 
 ghost use Rattle.sim_steps.specs.Example.{ExampleIsMet, HalvesAreMet};
 ghost use Rattle.sim_steps.specs.Met.{MetImagesAreLinked};
+ghost use Rattle.sim_steps.specs.Placed.{BlocksStandApart, JumpsStandLast};
 ghost use Rattle.sim_steps.specs.Steps.{OrdinaryStepsAreAlike};
 ghost use Rattle.sim_steps.specs.Units.{BuiltUnitsWork, LastNumberMeans, NumbersMean, WorkServes};
 
@@ -38,4 +39,10 @@ pub fn built_units_work()
 pub fn numbers_mean_halves()
     ensures others { NumbersMean }
     ensures last { LastNumberMeans }
+{}
+
+/// What halfwords stand for in an IT block is the last of it where it jumps, and starts no block.
+pub fn jumps_stand_last()
+    ensures jumps { JumpsStandLast }
+    ensures blocks { BlocksStandApart }
 {}
