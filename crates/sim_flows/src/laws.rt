@@ -1,0 +1,14 @@
+//! What the flow of an object and its liveness give of the points of a chart. The functions do nothing: their
+//! contracts are the laws.
+
+ghost use Rattle.sim_flows.specs.Lives.{DeadIsSpared, FlowsGiveLives};
+
+/// What is live before the points of a flow is closed as a chart asks of it.
+pub fn flows_give_lives()
+    ensures { FlowsGiveLives }
+{}
+
+/// A unit that loses what is dead after its point spares what a chart asks for.
+pub fn dead_is_spared()
+    ensures { DeadIsSpared }
+{}
