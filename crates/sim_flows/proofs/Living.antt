@@ -84,11 +84,11 @@ leaves_same address Call = refl
 leaves_same address Return = refl
 leaves_same address Stops = refl
 
-next_leads : (address : ℕ → ℕ) (o : Option ℕ) (a : ℕ) → next_at address o ≡ Some a → (q : ℕ) × (o ≡ Some q) × (address q ≡ a)
+pub next_leads : (address : ℕ → ℕ) (o : Option ℕ) (a : ℕ) → next_at address o ≡ Some a → (q : ℕ) × (o ≡ Some q) × (address q ≡ a)
 next_leads address None a e = absurd cc
 next_leads address (Some q) a e = (q, refl, cc)
 
-branch_leads : (address : ℕ → ℕ) (e : Exit) (a : ℕ) → exit_at address e ≡ Branch a → (q : ℕ) × (e ≡ Branch q) × (address q ≡ a)
+pub branch_leads : (address : ℕ → ℕ) (e : Exit) (a : ℕ) → exit_at address e ≡ Branch a → (q : ℕ) × (e ≡ Branch q) × (address q ≡ a)
 branch_leads address Falls a e = absurd cc
 branch_leads address (Branch q) a e = (q, refl, cc)
 branch_leads address Transfer a e = absurd cc
@@ -96,7 +96,7 @@ branch_leads address Call a e = absurd cc
 branch_leads address Return a e = absurd cc
 branch_leads address Stops a e = absurd cc
 
-call_is : (address : ℕ → ℕ) (e : Exit) → exit_at address e ≡ Call → e ≡ Call
+pub call_is : (address : ℕ → ℕ) (e : Exit) → exit_at address e ≡ Call → e ≡ Call
 call_is address Falls e = absurd cc
 call_is address (Branch q) e = absurd cc
 call_is address Transfer e = absurd cc
@@ -112,7 +112,7 @@ boundary_held b K address Call k le r h = and_both (is_member k) (has b.call.0 k
 boundary_held b K address Return k le r h = and_both (is_member k) (has b.ret.0 k) (transfer_member k (or_left (at_call k) (k == 14) (return_calls K k le h))) (r.ret k h)
 boundary_held b K address Stops k le r h = absurd cc
 
-some_is : (p q : Point) → Some p ≡ Some q → p ≡ q
+pub some_is : (p q : Point) → Some p ≡ Some q → p ≡ q
 some_is p q e = cc
 
 module _ (chart : Chart) (f : FlowParts) (b : Boundary) (K : ℕ) (address : ℕ → ℕ) (le : K ≤ 4) (r : KeepsResults b K) (has_points : HasPoints chart f b address) where
@@ -152,7 +152,7 @@ module _ (chart : Chart) (f : FlowParts) (b : Boundary) (K : ℕ) (address : ℕ
   live_member q k l = used_member b l.point k (has_points l.last l.point l.there).2.formed l.used
 
 -- a point by its number
-point_at : (f : FlowParts) (q : ℕ) → q < length f.points → (y : FlowPoint) × (slice_get f.points q ≡ Some y)
+pub point_at : (f : FlowParts) (q : ℕ) → q < length f.points → (y : FlowPoint) × (slice_get f.points q ≡ Some y)
 point_at f q lt = ⊎_elim (λ c. (c.0, c.2)) (λ c. absurd (omega (arith, c.0, lt))) (slice_get_cases f.points q).1
 
 pub flows_give_lives : FlowsGiveLives

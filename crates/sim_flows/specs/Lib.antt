@@ -1,2 +1,3 @@
 pub mod Points
 pub mod Lives
+pub mod Continuing

@@ -1,6 +1,7 @@
 //! What the flow of an object and its liveness give of the points of a chart. The functions do nothing: their
 //! contracts are the laws.
 
+ghost use Rattle.sim_flows.specs.Continuing.{FlowsContinue};
 ghost use Rattle.sim_flows.specs.Lives.{DeadIsSpared, FlowsGiveLives};
 
 /// What is live before the points of a flow is closed as a chart asks of it.
@@ -11,4 +12,9 @@ pub fn flows_give_lives()
 /// A unit that loses what is dead after its point spares what a chart asks for.
 pub fn dead_is_spared()
     ensures { DeadIsSpared }
+{}
+
+/// Control goes on in a flow as a chart asks, where its points and their units are placed.
+pub fn flows_continue()
+    ensures { FlowsContinue }
 {}
