@@ -32,7 +32,7 @@ use Rattle.sim_flows.proofs.Numbers.{same_behind, same_falls, same_jumps, same_w
 use Rattle.sim_flows.proofs.Living.{next_leads, branch_leads, call_is, some_is}
 
 -- an element by its number
-pick : {X : Type 0} (xs : List X) (k : ℕ) → k < length xs → (x : X) × (slice_get xs k ≡ Some x)
+pub pick : {X : Type 0} (xs : List X) (k : ℕ) → k < length xs → (x : X) × (slice_get xs k ≡ Some x)
 pick xs k lt = ⊎_elim (λ c. (c.0, c.2)) (λ c. absurd (omega (arith, c.0, lt))) (slice_get_cases xs k).1
 
 number_is : (a b : ℕ) → Some a ≡ Some b → a ≡ b

@@ -1,3 +1,4 @@
 pub mod Numbers
 pub mod Living
 pub mod Continuing
+pub mod Meeting

@@ -1,3 +1,4 @@
 pub mod Points
 pub mod Lives
 pub mod Continuing
+pub mod Meeting

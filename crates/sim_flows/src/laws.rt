@@ -3,6 +3,7 @@
 
 ghost use Rattle.sim_flows.specs.Continuing.{FlowsContinue};
 ghost use Rattle.sim_flows.specs.Lives.{DeadIsSpared, FlowsGiveLives};
+ghost use Rattle.sim_flows.specs.Meeting.{FlowsMeet};
 
 /// What is live before the points of a flow is closed as a chart asks of it.
 pub fn flows_give_lives()
@@ -17,4 +18,9 @@ pub fn dead_is_spared()
 /// Control goes on in a flow as a chart asks, where its points and their units are placed.
 pub fn flows_continue()
     ensures { FlowsContinue }
+{}
+
+/// The points of a flow meet what is asked so that an ordinary step is alike, by what linking gives of them.
+pub fn flows_meet()
+    ensures { FlowsMeet }
 {}
