@@ -2,3 +2,4 @@ pub mod Points
 pub mod Lives
 pub mod Continuing
 pub mod Meeting
+pub mod Units

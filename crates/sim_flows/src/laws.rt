@@ -4,6 +4,7 @@
 ghost use Rattle.sim_flows.specs.Continuing.{FlowsContinue};
 ghost use Rattle.sim_flows.specs.Lives.{DeadIsSpared, FlowsGiveLives};
 ghost use Rattle.sim_flows.specs.Meeting.{FlowsMeet};
+ghost use Rattle.sim_flows.specs.Units.{FlowsGiveUnits};
 
 /// What is live before the points of a flow is closed as a chart asks of it.
 pub fn flows_give_lives()
@@ -23,4 +24,9 @@ pub fn flows_continue()
 /// The points of a flow meet what is asked so that an ordinary step is alike, by what linking gives of them.
 pub fn flows_meet()
     ensures { FlowsMeet }
+{}
+
+/// So a point of a flow and its unit have all that two linked images are asked for.
+pub fn flows_give_units()
+    ensures { FlowsGiveUnits }
 {}
