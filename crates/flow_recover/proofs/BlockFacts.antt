@@ -20,7 +20,7 @@ use Rattle.flow_recover.specs.Visits.{AreVisits}
 use Rattle.flow_recover.specs.FlowFaults.{block_length, IsInBlock}
 use Rattle.flow_recover.specs.Gains.{has_place, PlacesGain, IsFrom}
 use Rattle.flow_recover.specs.NodeFaults.{mask_of, IsBlock, IsBelow, IsMember, IsBlockPlace, IsCut}
-use Rattle.elf_model.proofs.Elements.{contains_cases, contains_here, contains_later, contains_none}
+use Rattle.elf_model.proofs.Elements.{contains_cases, contains_here, contains_later}
 use Rattle.flow_recover.proofs.AnswerFacts.{not_true, none_is, some_is, none_of, this_of, one_of}
 use Rattle.flow_recover.proofs.GainFacts.{gain_none, gain_same}
 use Rattle.flow_recover.proofs.VisitFacts.{visited}
@@ -126,14 +126,6 @@ first_left bytes section end count at j x s = elim s [
 ]
 
 module _ (bytes : List ℕ) (section : ℕ) (b : Block) (old : BTreeSet (ℕ × ℕ)) where
-  pub noted_none : (now : BTreeSet (ℕ × ℕ)) (at : ℕ) → now ≡ old → at ≡ b.start → AreNoted bytes section b old now 0 at
-  noted_none now at same start = record {
-    low = omega arith;
-    same = λ j x. let e : b.count - 0 ≡ b.count = omega arith in subst (λ (c : ℕ). HasOrLeft bytes section b.end now c at j x ↔ HasOrLeft bytes section b.end old b.count b.start j x) (sym e)
-        (subst (λ (s : BTreeSet (ℕ × ℕ)). HasOrLeft bytes section b.end s b.count at j x ↔ HasOrLeft bytes section b.end old b.count b.start j x) (sym same)
-        (subst (λ (a : ℕ). HasOrLeft bytes section b.end old b.count a j x ↔ HasOrLeft bytes section b.end old b.count b.start j x) (sym start) (λ h. h, λ h. h)));
-  }
-
   pub noted_more : (now new : BTreeSet (ℕ × ℕ)) (k at next : ℕ) → k < b.count → AreNoted bytes section b old now k at
       → PlacesGain (λ j x. IsBelow section at b.end j x) now new → next ≡ at + length_at bytes at → length_at bytes at ≤ 4 → AreNoted bytes section b old new (k + 1) next
   noted_more now new k at next less noted grows e short = record {
@@ -159,23 +151,6 @@ module _ (bytes : List ℕ) (section : ℕ) (b : Block) (old : BTreeSet (ℕ × 
         ] in
         (λ h. here.0 (to h), λ h. from (here.1 h));
   }
-
-  pub noted_all : (now : BTreeSet (ℕ × ℕ)) (k at : ℕ) → b.count ≤ k → AreNoted bytes section b old now k at → PlacesGain (λ j x. (section ≡ j) × IsMember bytes b x) old now
-  noted_all now k at all noted j x =
-      let h : HasOrLeft bytes section b.end now (b.count - k) at j x ↔ HasOrLeft bytes section b.end old b.count b.start j x = noted.same j x in
-      let z : b.count - k ≡ 0 = omega (arith, all) in (
-        λ n. elim (h.0 (inl n)) [
-          | inl m ↦ inl m
-          | inr l ↦ inr (l.same_section, record { follows = l.follows; in_range = l.in_range })
-        ],
-        λ s. let r : HasOrLeft bytes section b.end old b.count b.start j x = elim s [
-          | inl m ↦ inl m
-          | inr p ↦ inr (record { same_section = p.0; follows = p.1.follows; in_range = p.1.in_range })
-        ] in elim (h.1 r) [
-          | inl n ↦ n
-          | inr l ↦ absurd (contains_none x (same_left bytes section b.end at j x (b.count - k) 0 z l).follows)
-        ],
-      )
 
 -- the first instructions of a block are whole, as `whole` says
 pub record AreWhole (bytes : List ℕ) (b : Block) (whole : Bool) (k at : ℕ) : Type 0 where
@@ -220,9 +195,6 @@ below_more old new section at end low g j x = gain_same (has_place new j x ≡ t
     (λ p. record { same_section = p.0; same_offset = p.1; in_range = subst (λ (y : ℕ). y < end) p.1 low })
     (λ p. (p.same_section, p.same_offset))
     (g j x)
-
-pub below_none : (places : BTreeSet (ℕ × ℕ)) (section at end : ℕ) → end ≤ at → PlacesGain (λ j x. IsBelow section at end j x) places places
-below_none places section at end high j x = gain_none (has_place places j x ≡ true) (IsBelow section at end j x) (λ p. let e = p.same_offset in let r = p.in_range in omega (arith, e, r))
 
 -- the places of all blocks are those in blocks
 module _ (o : ObjectParts) (visits : List Visit) (seen : AreVisits o visits) where

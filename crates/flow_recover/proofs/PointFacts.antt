@@ -31,7 +31,7 @@ use Rattle.flow_recover.specs.Reach.IsReached.{named, led_on, led_away}
 use Rattle.flow_recover.specs.FlowFaults.{IsReachedInstr, refusal_of, literal_place}
 use Rattle.flow_recover.specs.FlowFaults.IsClaim.{by_object, by_instr}
 use Rattle.flow_recover.specs.FlowFaults.{FlowFault as fault}
-use Rattle.flow_recover.specs.WholeFlows.{plain_exit, is_near, IsExit, IsNext, IsLoaded, IsPoint, Enters, IsEntry}
+use Rattle.flow_recover.specs.WholeFlows.{is_near, IsExit, IsNext, IsLoaded, IsPoint, Enters, IsEntry}
 use Rattle.flow_recover.specs.WholeFlows.Enters.{by_call, by_symbol}
 use Rattle.flow_recover.specs.WholeFlows.{IsEntry as entry}
 use Rattle.flow_recover.specs.WholeFlows.{IsExit as exits}
@@ -85,9 +85,6 @@ module _ (o : ObjectParts) (faultless : IsFaultless o) where
       faultless refusal.IntoMiddle n.section n.offset (fault.no_word n l (record { reached = r; found = f }) (λ w e. absurd (none-some w (sym none ∙ e))) refl refl refl)
 
   module _ (n : Node) (i : Instr) (reached : IsReached o n) (found : IsFound o n (Ok i)) (places : List (ℕ × ℕ)) (words : ArePlaces o places) where
-    pub loaded_none : ((l : LiteralFields) → i ≡ instr.Literal l → ⊥) → IsLoaded (map (word_at o) places) n i None
-    loaded_none h = loads.none h refl
-
     pub loaded_there : (l : LiteralFields) (w : ℕ) (r : Option ℕ) → i ≡ instr.Literal l → literal_place n.offset l ≡ Some w → ((q : ℕ) → (r ≡ Some q) ↔ (slice_get places q ≡ Some (n.section, w)))
         → IsLoaded (map (word_at o) places) n i r
     loaded_there l w r is at index =
@@ -133,9 +130,6 @@ module _ (o : ObjectParts) (faultless : IsFaultless o) (end_at : ℕ → ℕ →
       stops (by_return c alive) none = alive (no_code (behind o n.section n.offset) none)
 
   module _ (nodes : List Node) (are : AreNodes o nodes) (n : Node) (i : Instr) (reached : IsReached o n) (found : IsFound o n (Ok i)) where
-    pub exit_plain : is_branch i ≡ false → IsExit o nodes n i (plain_exit i)
-    exit_plain h = exits.plain h refl
-
     pub exit_near : (x q : ℕ) → is_branch i ≡ true → IsAim o n.section n.offset i (Near x) → slice_get nodes q ≡ Some (node_at n.section x) → IsExit o nodes n i (exit.Branch q)
     exit_near x q h a at = exits.near x q h a at refl
 

@@ -62,20 +62,6 @@ fewer_unmarked (b ∷ marks) (suc i) e =
     omega arith
 
 -- a start is put
-pub put_again : (i : ℕ) (w : Walk) → slice_get w.come.items i ≡ Some true → IsPut i w w
-put_again i w marked = record {
-  places = refl;
-  nodes = refl;
-  sized = refl;
-  queue = refl;
-  mark = marked;
-  others = λ k ne. refl;
-  kept = λ k c. c;
-  only = λ k c. inl c;
-  waits = inl marked;
-  few = omega arith;
-}
-
 pub record IsQueued (i : ℕ) (old new : PendingParts) (put : Bool) : Type 0 where
   pub waits : (put ≡ false) ↔ Contains old.waiting i
   pub waiting : new.waiting ≡ cond put (old.waiting ++ i ∷ []) old.waiting
@@ -350,9 +336,6 @@ module _ (o : ObjectParts) where
     }
 
   -- nodes one behind another
-  pub walked_none : (at : Option Node) (w : Walk) → IsWalk o w at → IsWalkedOn o at w w at
-  walked_none at w walk = record { walk = walk; keeps = λ k known. known; few = omega arith }
-
   pub walked_more : (from : Option Node) (first old new : Walk) (n : Node) (after : Option Node) → IsWalkedOn o from first old (Some n) → IsTurned o n old new after → IsWalkedOn o from first new after
   walked_more from first old new n after walked turned = record {
     walk = turned.walk;
@@ -456,9 +439,6 @@ module _ (o : ObjectParts) where
   pub record HasBegun (claims : List Claim) (w : Walk) : Type 0 where
     pub walk : IsWalk o w None
     pub begun : (c : Claim) → Contains claims c → HasStart o c.section c.offset → IsKnown w None (node_at c.section c.offset)
-
-  pub begun_none : (w : Walk) → IsWalk o w None → HasBegun [] w
-  begun_none w walk = record { walk = walk; begun = λ c h s. absurd (contains_none c h) }
 
   pub begun_more : (claims : List Claim) (i : ℕ) (d : Claim) (old new : Walk) → AreNamed o claims → i < length claims → CameTo (Some (node_at (get_or claims i d).section (get_or claims i d).offset)) old new → HasBegun (take i claims) old → HasBegun (take (i + 1) claims) new
   begun_more claims i d old new are l comes h = subst (λ (t : List Claim). HasBegun t new) (sym (take_more claims i d l)) (go (get_or claims i d) (contains_at claims i (get_or claims i d) (slice_get-get_or claims i d l)) comes)
