@@ -1,3 +1,14 @@
+pub mod RangeStarts
+pub mod SpanTables
+pub mod MisplacedFacts
+pub mod SiteFacts
+pub mod TieFacts
+pub mod NumberCodes
+pub mod PatchFacts
+pub mod WrittenFacts
+pub mod PlaceCodes
+pub mod LaidFacts
+pub mod MarkFacts
 pub mod ListFacts
 pub mod SectionFacts
 pub mod RawBytes

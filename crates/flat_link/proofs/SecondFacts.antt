@@ -14,12 +14,12 @@ use Rattle.flat_link.proofs.SymbolFacts.{symbols_rise}
 use Rattle.flat_link.proofs.NameFacts.{second_yes, second_no}
 
 -- an element among the first ones has a number below theirs
-record IsEarly {Y : Type 0} (ys : List Y) (i : ℕ) (y : Y) : Type 0 where
+pub record IsEarly {Y : Type 0} (ys : List Y) (i : ℕ) (y : Y) : Type 0 where
   pub number : ℕ
   pub below : number < i
   pub there : slice_get ys number ≡ Some y
 
-early : {X Y : Type 0} (f : X → Y) (xs : List X) (i : ℕ) (y : Y) → Contains (map f (take i xs)) y → IsEarly (map f xs) i y
+pub early : {X Y : Type 0} (f : X → Y) (xs : List X) (i : ℕ) (y : Y) → Contains (map f (take i xs)) y → IsEarly (map f xs) i y
 early f [] zero y c = absurd (contains_none y c)
 early f [] (suc i) y c = absurd (contains_none y c)
 early f (x ∷ xs) zero y c = absurd (contains_none y c)
@@ -29,7 +29,7 @@ early f (x ∷ xs) (suc i) y c =
       | inr r ↦ let h = early f xs i y r in let b = h.below in record { number = suc h.number; below = omega arith; there = h.there }
     ]
 
-mapped_at : {X Y : Type 0} (f : X → Y) (xs : List X) (i : ℕ) (x : X) → i < length xs → x ≡ get_or xs i x → slice_get (map f xs) i ≡ Some (f x)
+pub mapped_at : {X Y : Type 0} (f : X → Y) (xs : List X) (i : ℕ) (x : X) → i < length xs → x ≡ get_or xs i x → slice_get (map f xs) i ≡ Some (f x)
 mapped_at f [] i x l e = absurd (omega arith)
 mapped_at f (y ∷ ys) zero x l e = ap (λ (z : _). Some (f z)) (sym e)
 mapped_at f (y ∷ ys) (suc i) x l e = mapped_at f ys i x (omega arith) e

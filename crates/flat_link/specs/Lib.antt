@@ -3,5 +3,10 @@ pub mod Known
 pub mod Layout
 pub mod Lots
 pub mod Made
+pub mod Marks
+pub mod Misplaced
+pub mod Patches
 pub mod Placing
+pub mod Sites
 pub mod Stops
+pub mod Ties

@@ -30,7 +30,8 @@ pub(crate) struct Names<'a> {
     pub(crate) weaks: IndexMap<&'a [u8], Known<'a>>,
 }
 
-fn is_defined(home: Home) -> bool
+/// Whether a symbol that is at home there is a definition.
+pub(crate) fn is_defined(home: Home) -> bool
     ensures { result ≡ is_defined home }
 {
     match home {
