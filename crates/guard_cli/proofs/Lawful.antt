@@ -1,9 +1,7 @@
 -- THE LAW OF WORKS: each keeps its promise, and what it accepts is neither refused nor stopped.
-use Rattle.std.proofs.Common.{◌≡◌, ◌≢◌, ℕ, List, [], ◌∷◌, map, Some, None, IsTrue, refl, ◌∙◌, subst, arith}
+use Rattle.std.proofs.Common.{◌≡◌, ℕ, List, [], ◌∷◌, map, Some, None, IsTrue, refl, ◌∙◌, subst, arith}
 use Rattle.elf_model.specs.declared.refusals.Spot.{Spot}
 use Rattle.elf_model.specs.declared.refusals.TheConstants.Limit.{INPUT}
-use Rattle.skip_machine.specs.declared.machines.Outcome.{Outcome}
-use Rattle.skip_machine.specs.declared.machines.Outcome.TheVariants.{Returned}
 use Rattle.guard_cli.specs.FirstForm.{IsFirstObject}
 use Rattle.guard_words.specs.Words.{Pair, LinkWords, RunWords}
 use Rattle.guard_cli.specs.Moments.{Files}

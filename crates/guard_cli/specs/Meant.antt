@@ -1,5 +1,5 @@
 -- The work that a line of words means.
-use Rattle.std.specs.Prelude.{ℕ, List, [], ◌∷◌, map}
+use Rattle.std.specs.Prelude.{[], ◌∷◌, map}
 use Rattle.guard_words.specs.Words.{Pair}
 use Rattle.guard_words.specs.Meanings.{Meaning, harden, link, run, list}
 use Rattle.guard_cli.specs.Works.{Work, not_yet}

@@ -1,4 +1,4 @@
-use Rattle.std.proofs.Common.{◌≡◌, List, ℕ, map, string_bytes, sym, ap, subst, ◌∙◌, take, drop, length, ◌-◌, arith}
+use Rattle.std.proofs.Common.{List, ℕ, map, string_bytes, sym, subst, take, drop, length, ◌-◌}
 use Rattle.std.specs.Prelude.{IfErr, IsSome}
 use Rattle.guard_cli.specs.Moments.{files_seen, screen_seen}
 use Rattle.guard_cli.specs.Works.{inputs_of}

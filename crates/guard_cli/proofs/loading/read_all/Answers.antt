@@ -1,4 +1,4 @@
-use Rattle.std.proofs.Common.{◌≡◌, ◌≤◌, ◌<◌, ◌+◌, List, ℕ, [], ◌∷◌, ◌++◌, length, take, sym, ap, ap₂, subst, ◌∙◌, arith}
+use Rattle.std.proofs.Common.{◌≤◌, ◌+◌, List, ℕ, [], ◌∷◌, ◌++◌, length, take, sym, ap, subst, arith}
 use Rattle.elf_model.specs.Objects.{ObjectParts}
 use Rattle.elf_model.specs.Files.{StandsFor}
 use Rattle.elf_model.specs.declared.refusals.TheConstants.Limit.{ANY}

@@ -1,4 +1,4 @@
-use Rattle.std.proofs.Common.{[], ◌∷◌, ◌∙◌, sym, ap, subst, List, Option}
+use Rattle.std.proofs.Common.{[], ◌∙◌, sym, ap, subst, List, Option}
 use Rattle.elf_model.specs.Objects.{ObjectParts}
 use Rattle.thumb_table.specs.Images.{IsImage}
 use Rattle.skip_machine.specs.declared.machines.Outcome.{Outcome}
