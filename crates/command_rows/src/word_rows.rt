@@ -36,8 +36,8 @@ const COMMANDS: [(&str, u8, &str); 11] = [
     ),
     (
         "link --base 0x8000 --room 64 i.bin b.o c.o",
-        1,
-        "b.o: refused 32 NotYet section 0 offset 0\n",
+        3,
+        "c.o: read fault\n",
     ),
     (
         "run --skip=0,2 --steps=10000000 --entry==f --base 0x1000 --room 64 b.o",
@@ -61,13 +61,13 @@ const COMMANDS: [(&str, u8, &str); 11] = [
     ),
     (
         "run --seed 4294967295 --steps 1 --entry f --base 0x1000 --room 64 b.o",
-        1,
-        "b.o: refused 32 NotYet section 0 offset 0\n",
+        5,
+        "unfinished after 1 steps\n",
     ),
     (
         "run --skip 0 --steps 1 --entry f --base 0x1000 --room 64 b.o c.o",
-        1,
-        "b.o: refused 32 NotYet section 0 offset 0\n",
+        3,
+        "c.o: read fault\n",
     ),
 ];
 
@@ -186,14 +186,15 @@ fn with_inputs(
 
 #[test]
 fn takes_sixteen_inputs_at_most(rt: HostRuntime) -> Result<(), Fail> {
-    for (start, input) in [
-        ("harden", " a b"),
-        ("link --base 0 --room 64 o", " a"),
-        ("run --base 0 --room 64 --entry f --steps 1", " a"),
+    let not_yet = (1, "a: refused 32 NotYet section 0 offset 0\n");
+    let unread = (3, "a: read fault\n");
+    for (start, input, (status, text)) in [
+        ("harden", " a b", not_yet),
+        ("link --base 0 --room 64 o", " a", unread),
+        ("run --base 0 --room 64 --entry f --steps 1", " a", unread),
     ] {
-        let not_yet = "a: refused 32 NotYet section 0 offset 0\n";
         let most = with_inputs(rt.alloc(), start, input, 16)?;
-        says(&rt, rt.alloc(), &most, 1, not_yet)?;
+        says(&rt, rt.alloc(), &most, status, text)?;
         let more = with_inputs(rt.alloc(), start, input, 17)?;
         says(&rt, rt.alloc(), &more, 2, USAGE)?;
     }

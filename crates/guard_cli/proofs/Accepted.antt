@@ -1,26 +1,66 @@
 -- The works of `link` and of `list`: what is accepted is not refused.
-use Rattle.std.proofs.Common.{◌≡◌, inl, inr, ℕ, List, ◌∷◌, [], subst, arith}
+use Rattle.std.proofs.Common.{◌≡◌, ◌≤◌, inl, inr, ℕ, List, [], ◌∷◌, ◌++◌, length, refl, subst, arith}
+use Rattle.std.specs.Prelude.{All}
+use Rattle.std.proofs.lemmas.List.Elements.{All-nil, All-cons, All-head, All-tail}
 use Rattle.elf_model.specs.declared.refusals.Spot.{Spot}
+use Rattle.elf_model.specs.declared.refusals.Limit.{Limit}
 use Rattle.elf_model.specs.declared.refusals.TheConstants.Limit.{ANY}
 use Rattle.elf_model.specs.Objects.{ObjectParts}
 use Rattle.elf_model.proofs.OneObject.{only_one_object}
 use Rattle.thumb_table.specs.declared.placements.Placement.{Placement}
 use Rattle.thumb_table.specs.LinkFaults.{IsLinkRefusal}
+use Rattle.elf_read.specs.Faults.{IsFaultless}
+use Rattle.guard_cli.specs.Inputs.{IsReadAs, AreReadAs, IsReadRefusal}
 use Rattle.guard_cli.specs.Linkable.{IsLinkable}
-use Rattle.guard_cli.specs.LinkWork.{IsOf, IsLinkInputRefusal, HasImage}
+use Rattle.guard_cli.specs.LinkWork.{AreOf, IsFormRefusal, IsLinkInputRefusal, HaveImage}
 use Rattle.guard_cli.specs.ListWork.{IsListRefusal, IsReadable}
-use Rattle.guard_cli.proofs.Answered.{handled_is_accepted}
 
--- A file of one object is of no other.
-pub one_of : (file : List ℕ) (a b : ObjectParts) → IsOf file a → IsOf file b → a ≡ b
-one_of file a b x y = only_one_object file a b x.read.stands y.read.stands
+-- Files of these objects are of no others.
+same_read : (l : Limit) (files : List (List ℕ)) (a b : List ObjectParts) → AreReadAs l files a → AreReadAs l files b → a ≡ b
+same_read l [] [] [] h k = refl
+same_read l [] [] (p ∷ b) h k = absurd k
+same_read l [] (o ∷ a) b h k = absurd h
+same_read l (f ∷ files) [] b h k = absurd h
+same_read l (f ∷ files) (o ∷ a) [] h k = absurd k
+same_read l (f ∷ files) (o ∷ a) (p ∷ b) (h, hs) (k, ks) =
+    let first : o ≡ p = only_one_object f o p h.stands k.stands in
+    let rest : a ≡ b = same_read l files a b hs ks in
+    cc
 
--- An input whose object has an image is not refused.
-pub image_is_accepted : (at : Placement) (file : List ℕ) (spot : Spot) → HasImage at file → IsLinkInputRefusal at file spot → ⊥
-image_is_accepted at file spot (o, image, is, linked) (inl read) = handled_is_accepted ANY IsLinkable file spot (o, is) read
-image_is_accepted at file spot (o, image, is, linked) (inr (other, its, refusal)) =
-    let same = one_of file other o its is in
-    let here : IsLinkRefusal (o ∷ []) at spot = subst (λ (x : ObjectParts). IsLinkRefusal (x ∷ []) at spot) same refusal in
+pub same_objects : (files : List (List ℕ)) (a b : List ObjectParts) → AreOf files a → AreOf files b → a ≡ b
+same_objects files a b x y = same_read ANY files a b x.read y.read
+
+-- what holds of each file that is read
+pub each_read : (l : Limit) (P : List ℕ → Type 0) → ((f : List ℕ) (o : ObjectParts) → IsReadAs l f o → P f) → (files : List (List ℕ)) (objects : List ObjectParts) → AreReadAs l files objects → All P files
+each_read l P one [] objects h = All-nil P
+each_read l P one (f ∷ files) [] h = absurd h
+each_read l P one (f ∷ files) (o ∷ objects) (h, hs) = All-cons P f files (one f o h) (each_read l P one files objects hs)
+
+pub at_middle : {X : Type 0} (P : X → Type 0) (earlier : List X) (x : X) (later : List X) → All P (earlier ++ x ∷ later) → P x
+at_middle P [] x later all = All-head P x later all
+at_middle P (y ∷ earlier) x later all = at_middle P earlier x later (All-tail P y (earlier ++ x ∷ later) all)
+
+-- Files that are read are not refused as they are read.
+read_is_accepted : (l : Limit) (files : List (List ℕ)) (objects : List ObjectParts) (spot : Spot) → AreReadAs l files objects → IsReadRefusal l files spot → ⊥
+read_is_accepted l files objects spot are (inl long) =
+    let all = subst (All (λ (f : List ℕ). length f ≤ l.file)) long.files_are (each_read l (λ f. length f ≤ l.file) (λ f o h. h.short) files objects are) in
+    let short = at_middle (λ (f : List ℕ). length f ≤ l.file) long.earlier long.file long.later all in
+    let above = long.long in
+    omega arith
+read_is_accepted l files objects spot are (inr faulty) =
+    let all = subst (All (λ (f : List ℕ). IsFaultless f l)) faulty.files_are (each_read l (λ f. IsFaultless f l) (λ f o h. h.faultless) files objects are) in
+    at_middle (λ (f : List ℕ). IsFaultless f l) faulty.earlier faulty.file faulty.later all faulty.fault.refusal faulty.fault.section faulty.fault.offset faulty.first.fault
+
+form_is_accepted : (files : List (List ℕ)) (objects : List ObjectParts) (spot : Spot) → AreOf files objects → IsFormRefusal files spot → ⊥
+form_is_accepted files objects spot are (inl read) = read_is_accepted ANY files objects spot are.read read
+form_is_accepted files objects spot are (inr (is, (others, read, not))) = not (subst (All IsLinkable) (same_read ANY files objects others are.read read) are.form)
+
+-- Inputs whose objects have an image are not refused.
+pub image_is_accepted : (at : Placement) (files : List (List ℕ)) (spot : Spot) → HaveImage at files → IsLinkInputRefusal at files spot → ⊥
+image_is_accepted at files spot (objects, image, are, linked) (inl form) = form_is_accepted files objects spot are form
+image_is_accepted at files spot (objects, image, are, linked) (inr (others, its, refusal)) =
+    let same = same_objects files others objects its are in
+    let here : IsLinkRefusal objects at spot = subst (λ (os : List ObjectParts). IsLinkRefusal os at spot) same refusal in
     linked.can.sound spot here.fault
 
 -- A file that is read is not refused.

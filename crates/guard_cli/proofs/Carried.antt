@@ -10,7 +10,7 @@ use Rattle.guard_cli.specs.declared.tasks.Made.{Made}
 use Rattle.guard_cli.specs.Moments.{Files, Screen, SameBut, Untouched, IsSaved}
 use Rattle.guard_cli.specs.Works.{Save, Work, AreLoaded}
 use Rattle.guard_cli.specs.Endings.{AreSaved, FinishesAs, HasLoaded, IsDecided, ComesTo}
-use Rattle.guard_cli.specs.Steps.{saves_of, IsMadeAs, IsMadeBy, IsSaving, IsSaying, MadeAsEndsAs, LoadFailsAs}
+use Rattle.guard_cli.specs.Steps.{saves_of, IsMadeAs, IsMadeBy, IsSaving, IsSaying, MadeAsEndsAs, LoadsFailAs}
 
 -- A file of which less was loaded than might have been was loaded whole.
 pub loaded_whole : (content : Option (List ℕ)) (most : ℕ) (bytes : List ℕ) → IsLoaded content most bytes → length bytes < most → content ≡ Some bytes
@@ -113,26 +113,16 @@ made_comes w loaded saves report (Some outcome) old mid new screen after ending 
     subst (λ (e : Ending). ComesTo w old new screen after e) (sym is)
     (record { loaded = loaded; line = report; inputs = has; other = other; cause = stops; untouched = untouched_before old mid new b.same untouched; said = said })
 
--- how a command ends that could not load its one input
-pub unloaded_comes : (w : Work) (name : List ℕ) (limit : ℕ) (old new : Files) (screen after : Screen) (ending : Ending) → w.inputs ≡ record { name = name; limit = limit } ∷ [] → Untouched old new
-    → LoadFailsAs name old new screen after ending → ComesTo w old new screen after ending
-unloaded_comes w name limit old new screen after ReadFault one same h = record {
-  earlier = [];
-  input = record { name = name; limit = limit };
-  later = [];
-  inputs_are = one;
-  cause = h.cause;
-  absent = h.absent;
-  untouched = same;
-  said = h.said;
-}
-unloaded_comes w name limit old new screen after NoMemory one same h = inl (same, h)
-unloaded_comes w name limit old new screen after Done one same h = absurd h
-unloaded_comes w name limit old new screen after (Refused spot) one same h = absurd h
-unloaded_comes w name limit old new screen after Usage one same h = absurd h
-unloaded_comes w name limit old new screen after WriteFault one same h = absurd h
-unloaded_comes w name limit old new screen after PrintFault one same h = absurd h
-unloaded_comes w name limit old new screen after (Stopped outcome) one same h = absurd h
+-- how a command ends that could not load its inputs
+pub unloaded_comes : (w : Work) (old new : Files) (screen after : Screen) (ending : Ending) → Untouched old new → LoadsFailAs w.inputs old new screen after ending → ComesTo w old new screen after ending
+unloaded_comes w old new screen after ReadFault same h = h
+unloaded_comes w old new screen after NoMemory same h = inl (same, h)
+unloaded_comes w old new screen after Done same h = absurd h
+unloaded_comes w old new screen after (Refused spot) same h = absurd h
+unloaded_comes w old new screen after Usage same h = absurd h
+unloaded_comes w old new screen after WriteFault same h = absurd h
+unloaded_comes w old new screen after PrintFault same h = absurd h
+unloaded_comes w old new screen after (Stopped outcome) same h = absurd h
 
 -- what is made where one file is saved, and where none is
 pub made_saving : (w : Work) (loaded : List (List ℕ)) (name bytes report : List ℕ) (made : Made) → IsSaving name bytes report made → w.Makes loaded (record { name = name; bytes = bytes } ∷ []) report → IsMadeBy w loaded made

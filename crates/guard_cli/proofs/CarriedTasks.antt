@@ -1,20 +1,20 @@
 -- Commands that are carried out, each by its cases.
-use Rattle.std.proofs.Common.{◌≡◌, ◌+◌, inl, ℕ, List, [], ◌∷◌, IsTrue, refl, sym, subst}
+use Rattle.std.proofs.Common.{◌≡◌, inl, ℕ, Bool, List, [], ◌∷◌, length, refl, sym, ap, ap₂, ◌∙◌, subst, arith}
 use Rattle.std.specs.Prelude.{All}
-use Rattle.std.proofs.lemmas.List.Elements.{All-head}
+use Rattle.std.proofs.lemmas.List.{length-map}
+use Rattle.std.proofs.lemmas.List.Elements.{All-nil, All-cons, All-head, All-tail}
 use Rattle.elf_model.specs.declared.refusals.Spot.{Spot}
 use Rattle.guard_cli.specs.declared.endings.Ending.{Ending}
 use Rattle.guard_cli.specs.declared.endings.Ending.TheVariants.{Done, Refused, Usage, ReadFault, WriteFault, PrintFault, NoMemory, Stopped}
 use Rattle.guard_words.specs.declared.tasks.Task.{Task}
 use Rattle.guard_words.specs.declared.tasks.Task.TheVariants as task
-use Rattle.guard_cli.specs.Texts.{refused_line}
-use Rattle.guard_cli.specs.Moments.{Files, Screen, Untouched, IsToldOf}
-use Rattle.guard_cli.specs.Works.{Input, AreLoaded, input_named}
-use Rattle.guard_io.specs.Outside.{IsLoaded}
+use Rattle.guard_cli.specs.Moments.{Files, Screen, Untouched}
+use Rattle.guard_cli.specs.Works.{Input, Contents, AreLoaded, inputs_of, input_named}
 use Rattle.guard_cli.specs.Endings.{HasLoaded, ComesTo, EndsAs, IsTurnedAwayAs}
 use Rattle.guard_words.specs.Meanings.{Means}
-use Rattle.guard_cli.specs.Steps.{work_by, input_by, limit_by, IsSound}
+use Rattle.guard_cli.specs.Steps.{work_by, names_by, limit_by, HasFewInputs, IsSound, AddsLoaded, LoadsFailAs}
 use Rattle.guard_words.specs.Tasks.{meaning_by}
+use Rattle.guard_cli.proofs.Carried.{unloaded_comes}
 
 pub sound_by : (words : List (List ℕ)) (t : Task) → Means words (meaning_by t) → IsSound t
 sound_by words (task.Harden input output) h = tt
@@ -22,17 +22,17 @@ sound_by words (task.Link c) h = h.placed.sound
 sound_by words (task.Run c) h = (h.meant.placed.sound, h.meant.few_steps)
 sound_by words (task.List input) h = tt
 
-pub one_input : (t : Task) → (work_by t).inputs ≡ record { name = input_by t; limit = limit_by t } ∷ []
-one_input (task.Harden input output) = refl
-one_input (task.Link c) = refl
-one_input (task.Run c) = refl
-one_input (task.List input) = refl
+pub few_by : (words : List (List ℕ)) (t : Task) → Means words (meaning_by t) → HasFewInputs t
+few_by words (task.Harden input output) h = record { some = omega arith; few = omega arith }
+few_by words (task.Link c) h = record { some = h.some; few = h.few }
+few_by words (task.Run c) h = record { some = h.some; few = h.few }
+few_by words (task.List input) h = record { some = omega arith; few = omega arith }
 
-named_input : (t : Task) (k : ℕ) → input_named (work_by t).inputs k ≡ input_by t
-named_input (task.Harden input output) k = refl
-named_input (task.Link c) k = refl
-named_input (task.Run c) k = refl
-named_input (task.List input) k = refl
+pub its_inputs : (t : Task) → (work_by t).inputs ≡ inputs_of (limit_by t) (names_by t)
+its_inputs (task.Harden input output) = refl
+its_inputs (task.Link c) = refl
+its_inputs (task.Run c) = refl
+its_inputs (task.List input) = refl
 
 pub comes_ends : (t : Task) (old new : Files) (screen after : Screen) (ending : Ending) → ComesTo (work_by t) old new screen after ending → EndsAs (work_by t) old new screen after ending
 comes_ends (task.Harden input output) old new screen after ending h = h
@@ -50,35 +50,45 @@ ends_come (task.List input) old new screen after ending h = h
 pub not_misused : (t : Task) (old new : Files) (screen after : Screen) (ending : Ending) → EndsAs (work_by t) old new screen after ending → ending ≡ Usage → ⊥
 not_misused t old new screen after ending h e = subst (λ (x : Ending). ComesTo (work_by t) old new screen after x) e (ends_come t old new screen after ending h)
 
-pub input_there : (t : Task) (P : List ℕ → Type 0) → All (λ (i : Input). P i.name) (work_by t).inputs → P (input_by t)
-input_there (task.Harden input output) P all = All-head (λ (i : Input). P i.name) _ [] all
-input_there (task.Link c) P all = All-head (λ (i : Input). P i.name) _ [] all
-input_there (task.Run c) P all = All-head (λ (i : Input). P i.name) _ [] all
-input_there (task.List input) P all = All-head (λ (i : Input). P i.name) _ [] all
+names_there : (limit : ℕ) (P : List ℕ → Type 0) (names : List (List ℕ)) → All (λ (i : Input). P i.name) (inputs_of limit names) → All P names
+names_there limit P [] all = All-nil P
+names_there limit P (n ∷ names) all =
+    All-cons P n names (All-head (λ (i : Input). P i.name) (record { name = n; limit = limit }) (inputs_of limit names) all)
+    (names_there limit P names (All-tail (λ (i : Input). P i.name) (record { name = n; limit = limit }) (inputs_of limit names) all))
 
-pub refused_comes : (t : Task) (spot : Spot) (bytes : List ℕ) (old new : Files) (screen after : Screen) (ending : Ending) → HasLoaded (work_by t) old (bytes ∷ []) → (work_by t).Refuses (bytes ∷ []) spot
-    → Untouched old new → IsTurnedAwayAs (input_by t) spot screen after ending → EndsAs (work_by t) old new screen after ending
-refused_comes t spot bytes old new screen after (Refused told) has cause same (is, said) =
+pub inputs_there : (t : Task) (P : List ℕ → Type 0) → All (λ (i : Input). P i.name) (work_by t).inputs → All P (names_by t)
+inputs_there t P all = names_there (limit_by t) P (names_by t) (subst (All (λ (i : Input). P i.name)) (its_inputs t) all)
+
+-- how a command ends that could not load its inputs
+pub unloaded_ends : (t : Task) (limit : ℕ) (names : List (List ℕ)) (old new : Files) (screen after : Screen) (ending : Ending) → limit ≡ limit_by t → names ≡ names_by t → Untouched old new
+    → LoadsFailAs (inputs_of limit names) old new screen after ending → EndsAs (work_by t) old new screen after ending
+unloaded_ends t limit names old new screen after ending limited named same h =
+    let inputs : inputs_of limit names ≡ (work_by t).inputs = ap₂ inputs_of limited named ∙ sym (its_inputs t) in
+    comes_ends t old new screen after ending
+    (unloaded_comes (work_by t) old new screen after ending same (subst (λ (l : List Input). LoadsFailAs l old new screen after ending) inputs h))
+
+pub refused_comes : (t : Task) (spot : Spot) (loaded : List (List ℕ)) (old new : Files) (screen after : Screen) (ending : Ending) → HasLoaded (work_by t) old loaded → (work_by t).Refuses loaded spot
+    → Untouched old new → IsTurnedAwayAs (input_named (work_by t).inputs spot.file) spot screen after ending → EndsAs (work_by t) old new screen after ending
+refused_comes t spot loaded old new screen after (Refused told) has cause same (is, said) =
     subst (λ (s : Spot). EndsAs (work_by t) old new screen after (Refused s)) (sym is)
-    (comes_ends t old new screen after (Refused spot)
-    (record {
-      loaded = bytes ∷ [];
-      inputs = has;
-      cause = cause;
-      untouched = same;
-      said = subst (λ (n : List ℕ). IsToldOf (refused_line n spot) screen after) (sym (named_input t spot.file)) said;
-    }))
-refused_comes t spot bytes old new screen after NoMemory has cause same said = comes_ends t old new screen after NoMemory (inl (same, said))
-refused_comes t spot bytes old new screen after Done has cause same said = absurd said
-refused_comes t spot bytes old new screen after Usage has cause same said = absurd said
-refused_comes t spot bytes old new screen after ReadFault has cause same said = absurd said
-refused_comes t spot bytes old new screen after WriteFault has cause same said = absurd said
-refused_comes t spot bytes old new screen after PrintFault has cause same said = absurd said
-refused_comes t spot bytes old new screen after (Stopped outcome) has cause same said = absurd said
+    (comes_ends t old new screen after (Refused spot) (record { loaded = loaded; inputs = has; cause = cause; untouched = same; said = said }))
+refused_comes t spot loaded old new screen after NoMemory has cause same said = comes_ends t old new screen after NoMemory (inl (same, said))
+refused_comes t spot loaded old new screen after Done has cause same said = absurd said
+refused_comes t spot loaded old new screen after Usage has cause same said = absurd said
+refused_comes t spot loaded old new screen after ReadFault has cause same said = absurd said
+refused_comes t spot loaded old new screen after WriteFault has cause same said = absurd said
+refused_comes t spot loaded old new screen after PrintFault has cause same said = absurd said
+refused_comes t spot loaded old new screen after (Stopped outcome) has cause same said = absurd said
 
--- what was loaded of the input of a command
-pub has_loaded : (t : Task) (old : Files) (name : List ℕ) (most : ℕ) (bytes : List ℕ) → name ≡ input_by t → most ≡ limit_by t + 1 → (IsTrue old.told → IsLoaded (old.content name) most bytes)
-    → HasLoaded (work_by t) old (bytes ∷ [])
-has_loaded t old name most bytes named is loaded = λ told.
-    let h = subst (λ (m : ℕ). IsLoaded (old.content (input_by t)) m bytes) is (subst (λ (n : List ℕ). IsLoaded (old.content n) most bytes) named (loaded told)) in
-    subst (λ (inputs : List Input). AreLoaded old.content inputs (bytes ∷ [])) (sym (one_input t)) (h, tt)
+-- what was loaded of the inputs of a command
+pub has_loaded : (t : Task) (limit : ℕ) (names : List (List ℕ)) (old : Files) (loaded : List (List ℕ)) → limit ≡ limit_by t → names ≡ names_by t
+    → AddsLoaded old.told old.content (inputs_of limit names) [] loaded → HasLoaded (work_by t) old loaded
+has_loaded t limit names old loaded limited named adds = λ told.
+    let inputs : inputs_of limit names ≡ (work_by t).inputs = ap₂ inputs_of limited named ∙ sym (its_inputs t) in
+    subst (λ (l : List Input). AreLoaded old.content l loaded) inputs
+    (subst (λ (more : List (List ℕ)). AreLoaded old.content (inputs_of limit names) more) (sym adds.adds) (adds.loaded told))
+
+pub loaded_count : (t : Task) (limit : ℕ) (names : List (List ℕ)) (told : Bool) (content : Contents) (loaded : List (List ℕ)) → names ≡ names_by t
+    → AddsLoaded told content (inputs_of limit names) [] loaded → length loaded ≡ length (names_by t)
+loaded_count t limit names told content loaded named adds =
+    ap length adds.adds ∙ adds.count ∙ length-map names (λ (name : List ℕ). record { name = name; limit = limit }) ∙ ap length named

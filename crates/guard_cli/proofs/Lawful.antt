@@ -1,26 +1,23 @@
 -- THE LAW OF WORKS: each keeps its promise, and what it accepts is neither refused nor stopped.
-use Rattle.std.proofs.Common.{◌≡◌, ◌≢◌, ℕ, List, [], ◌∷◌, map, Some, None, IsTrue, refl, ◌∙◌, subst, arith}
+use Rattle.std.proofs.Common.{◌≡◌, ℕ, List, [], ◌∷◌, map, Some, None, IsTrue, refl, ◌∙◌, subst, arith}
 use Rattle.elf_model.specs.declared.refusals.Spot.{Spot}
 use Rattle.elf_model.specs.declared.refusals.TheConstants.Limit.{INPUT}
-use Rattle.thumb_table.specs.declared.placements.Placement.{Placement}
-use Rattle.skip_machine.specs.declared.machines.Outcome.{Outcome}
-use Rattle.skip_machine.specs.declared.machines.Outcome.TheVariants.{Returned}
 use Rattle.guard_cli.specs.FirstForm.{IsFirstObject}
-use Rattle.guard_words.specs.Words.{Pair, LinkWords, RunWords, Skips, listed, drawn}
+use Rattle.guard_words.specs.Words.{Pair, LinkWords, RunWords}
 use Rattle.guard_cli.specs.Moments.{Files}
 use Rattle.guard_cli.specs.Works.{Save, AreLoaded, not_yet}
 use Rattle.guard_cli.specs.Endings.{AreSaved}
 use Rattle.guard_cli.specs.HardenWork.{IsHardenMade, IsHardenPromised, harden_work, output_of}
 use Rattle.guard_cli.specs.LinkWork.{link_work}
 use Rattle.guard_cli.specs.ListWork.{list_work}
-use Rattle.guard_cli.specs.MachineRuns.{Call, call_of, run_work}
+use Rattle.guard_cli.specs.MachineRuns.{call_of, run_work}
 use Rattle.guard_words.specs.Meanings.{Meaning, harden, link, run, list}
-use Rattle.guard_cli.specs.Meant.{link_by, run_by, work_of}
+use Rattle.guard_cli.specs.Meant.{work_of}
 use Rattle.guard_cli.proofs.Accepted.{image_is_accepted, readable_is_accepted}
 use Rattle.guard_cli.proofs.Answered.{IsLawful, handled_is_accepted}
 use Rattle.guard_cli.proofs.Carried.{KeepsItsPromise, loaded_whole}
 use Rattle.guard_cli.proofs.Promised.{promised}
-use Rattle.guard_cli.proofs.RunAnswered.{call_is_accepted, run_returns}
+use Rattle.guard_cli.proofs.RunAnswered.{call_is_accepted, words_return}
 
 one_saved : (s : Save) (old new : Files) → AreSaved (s ∷ []) old new → IsTrue old.told → new.content s.name ≡ Some s.bytes
 one_saved s old new (between, saved, same) told = same.each s.name ∙ saved.whole told
@@ -57,21 +54,16 @@ harden_lawful p = record {
     not_refused (file ∷ []) spot a r = handled_is_accepted INPUT IsFirstObject file spot a r
     not_refused (file ∷ x ∷ more) spot a r = a
 
-link_lawful : (at : Placement) (p : Pair) → IsLawful (link_work at p)
-link_lawful at p = record {
+link_lawful : (l : LinkWords) → IsLawful (link_work l)
+link_lawful l = record {
   promises = λ loaded saves report old new makes told has saved. tt;
   not_at_once = λ spot loaded e accepts. absurd (no_some spot e);
-  not_refused = not_refused;
+  not_refused = λ loaded spot accepts refuses. image_is_accepted l.at loaded spot accepts refuses;
   not_stopped = λ loaded outcome line accepts other stops. stops;
 }
   where
     no_some : (spot : Spot) → None ≡ Some spot → ⊥
     no_some spot e = cc
-
-    not_refused : (loaded : List (List ℕ)) (spot : Spot) → (link_work at p).Accepts loaded → (link_work at p).Refuses loaded spot → ⊥
-    not_refused [] spot a r = a
-    not_refused (file ∷ []) spot a r = image_is_accepted at file spot a r
-    not_refused (file ∷ x ∷ more) spot a r = a
 
 list_lawful : (input : List ℕ) → IsLawful (list_work input)
 list_lawful input = record {
@@ -89,26 +81,16 @@ list_lawful input = record {
     not_refused (file ∷ []) spot a r = readable_is_accepted file spot a r
     not_refused (file ∷ x ∷ more) spot a r = a
 
-run_lawful : (c : Call) → IsLawful (run_work c)
-run_lawful c = record {
+run_lawful : (r : RunWords) → IsLawful (run_work r)
+run_lawful r = record {
   promises = λ loaded saves report old new makes told has saved. tt;
   not_at_once = λ spot loaded e accepts. absurd (no_some spot e);
-  not_refused = not_refused;
-  not_stopped = not_stopped;
+  not_refused = λ loaded spot accepts refuses. call_is_accepted (call_of r accepts.0) loaded spot accepts.2 refuses;
+  not_stopped = λ loaded outcome line accepts other stops. words_return r loaded outcome line accepts other stops;
 }
   where
     no_some : (spot : Spot) → None ≡ Some spot → ⊥
     no_some spot e = cc
-
-    not_refused : (loaded : List (List ℕ)) (spot : Spot) → (run_work c).Accepts loaded → (run_work c).Refuses loaded spot → ⊥
-    not_refused [] spot a r = a
-    not_refused (file ∷ []) spot a r = call_is_accepted c file spot a r
-    not_refused (file ∷ x ∷ more) spot a r = a
-
-    not_stopped : (loaded : List (List ℕ)) (outcome : Outcome) (line : List ℕ) → (run_work c).Accepts loaded → outcome ≢ Returned → (run_work c).Stops loaded outcome line → ⊥
-    not_stopped [] outcome line a other s = a
-    not_stopped (file ∷ []) outcome line a other s = run_returns c file outcome line a other s
-    not_stopped (file ∷ x ∷ more) outcome line a other s = a
 
 later_lawful : (names : List (List ℕ)) → IsLawful (not_yet names)
 later_lawful names = record {
@@ -118,21 +100,10 @@ later_lawful names = record {
   not_stopped = λ loaded outcome line accepts other stops. stops;
 }
 
-link_by_lawful : (l : LinkWords) (inputs : List (List ℕ)) → IsLawful (link_by l inputs)
-link_by_lawful l [] = later_lawful []
-link_by_lawful l (x ∷ []) = link_lawful l.at (record { input = x; output = l.output })
-link_by_lawful l (x ∷ y ∷ inputs) = later_lawful (x ∷ y ∷ inputs)
-
-run_by_lawful : (r : RunWords) (inputs : List (List ℕ)) (skips : Skips) → IsLawful (run_by r inputs skips)
-run_by_lawful r [] skips = later_lawful []
-run_by_lawful r (x ∷ []) (listed steps) = run_lawful (call_of r x steps)
-run_by_lawful r (x ∷ []) (drawn n) = later_lawful (x ∷ [])
-run_by_lawful r (x ∷ y ∷ inputs) skips = later_lawful (x ∷ y ∷ inputs)
-
 pub work_is_lawful : (m : Meaning) → IsLawful (work_of m)
 work_is_lawful (harden []) = later_lawful []
 work_is_lawful (harden (p ∷ [])) = harden_lawful p
 work_is_lawful (harden (p ∷ q ∷ pairs)) = later_lawful (map (λ (p : Pair). p.input) (p ∷ q ∷ pairs))
-work_is_lawful (link l) = link_by_lawful l l.inputs
-work_is_lawful (run r) = run_by_lawful r r.inputs r.skips
+work_is_lawful (link l) = link_lawful l
+work_is_lawful (run r) = run_lawful r
 work_is_lawful (list input) = list_lawful input

@@ -1,9 +1,13 @@
 -- A call that returns within its steps is not refused, and its run does not stop otherwise.
-use Rattle.std.proofs.Common.{◌≡◌, ◌≢◌, ◌<◌, inl, inr, ℕ, zero, suc, ◌+◌, ◌-◌, Bool, List, [], ◌∷◌, Some, None, Result, Ok, Err, refl, sym, ap, ◌∙◌, subst, arith}
+use Rattle.std.proofs.Common.{◌≡◌, ◌≢◌, ◌<◌, inl, inr, ℕ, zero, suc, ◌+◌, ◌-◌, ◌&&◌, Bool, true, false, List, [], Some, None, Result, Ok, Err, refl, sym, ap, ap₂, ◌∙◌, subst, arith}
+use Rattle.std.specs.Prelude.{All}
+use Rattle.std.specs.Option.{option_to_list}
 use Rattle.std.proofs.lemmas.Bool.{cases_order}
 use Rattle.elf_model.specs.declared.refusals.Spot.{Spot}
 use Rattle.elf_model.specs.Objects.{ObjectParts}
+use Rattle.elf_model.proofs.Lists.{All_at}
 use Rattle.thumb_table.specs.declared.faults.FaultKind.{FaultKind}
+use Rattle.thumb_table.specs.declared.placements.Placement.{Placement}
 use Rattle.thumb_table.specs.Parts.{CodeBytes, Image}
 use Rattle.thumb_table.specs.States.{State}
 use Rattle.thumb_table.specs.Steps.{move}
@@ -12,14 +16,17 @@ use Rattle.thumb_table.specs.Images.{IsImage, entry_of}
 use Rattle.thumb_table.specs.Calls.{start}
 use Rattle.skip_machine.specs.declared.machines.Outcome.{Outcome}
 use Rattle.skip_machine.specs.declared.machines.Outcome.TheVariants.{Returned, Fault, Unfinished}
+use Rattle.skip_machine.specs.Draws.{skipped_before, IsDrawn}
 use Rattle.skip_machine.specs.Runs.{RunEnds}
 use Rattle.skip_machine.proofs.Walks.{run_more}
+use Rattle.guard_words.specs.Words.{RunWords, Skips, listed, drawn}
 use Rattle.guard_cli.specs.declared.run.Finished.{Finished}
-use Rattle.guard_cli.specs.LinkWork.{IsOf}
-use Rattle.guard_cli.specs.MachineRuns.{Call, IsRunRefusal, HasRun, CanReturn, run_line, run_work}
-use Rattle.guard_cli.specs.Steps.{IsFinished, IsMadeAs, stopped_by}
-use Rattle.guard_cli.proofs.Accepted.{one_of, image_is_accepted}
-use Rattle.thumb_table.proofs.PlainImages.{one_plain}
+use Rattle.guard_cli.specs.Linkable.{IsLinkable}
+use Rattle.guard_cli.specs.LinkWork.{AreOf}
+use Rattle.guard_cli.specs.MachineRuns.{Call, call_of, AreSkippedOf, IsScheduleOf, IsRunRefusal, HasRun, CanReturn, HasRunBy, CanReturnBy, run_line, run_work}
+use Rattle.guard_cli.specs.Steps.{IsFinishedBy, IsMadeAs, stopped_by}
+use Rattle.guard_cli.proofs.Accepted.{same_objects, image_is_accepted}
+use Rattle.thumb_table.proofs.PlainImages.{ArePlain}
 use Rattle.guard_cli.proofs.SameImages.{same_image}
 
 some_same : (x y : ℕ) → Some x ≡ Some y → x ≡ y
@@ -72,65 +79,116 @@ returns_only code skips most s t r Unfinished m u other (all, lasts) =
     let within = r.within in
     absurd (omega arith)
 
--- An input whose call can be made is not refused.
-pub call_is_accepted : (c : Call) (file : List ℕ) (spot : Spot) → CanReturn c file → IsRunRefusal c file spot → ⊥
-call_is_accepted c file spot (o, image, is, linked, entry, entry_is, t, returns) (inl link) = image_is_accepted c.at file spot (o, image, is, linked) link
-call_is_accepted c file spot (o, image, is, linked, entry, entry_is, t, returns) (inr (at, (other, its_image, its, its_linked, none))) =
-    let same = one_of file other o its is in
-    let here : IsImage (o ∷ []) c.at its_image = subst (λ (x : ObjectParts). IsImage (x ∷ []) c.at its_image) same its_linked in
-    let one : its_image ≡ image = same_image (o ∷ []) c.at (one_plain o is.form.relocs) its_image image here linked in
+-- One schedule is skipped by words.
+before_same : (a b : List ℕ) (c i : ℕ) → ((j : ℕ) → j < i → is_in a j ≡ is_in b j) → skipped_before a c i ≡ skipped_before b c i
+before_same a b zero i same = refl
+before_same a b (suc c) zero same = refl
+before_same a b (suc c) (suc i) same = ap₂ (λ (x y : Bool). x && y) (same i (omega arith)) (before_same a b c i (λ j less. same j (omega arith)))
+
+same_tests : (x y : Bool) → (x ≡ true → y ≡ true) → (y ≡ true → x ≡ true) → x ≡ y
+same_tests true y to back = sym (to refl)
+same_tests false true to back = back refl
+same_tests false false to back = refl
+
+drawn_to : (seed steps copies : ℕ) (a b : List ℕ) → IsDrawn seed steps copies a → IsDrawn seed steps copies b → (i : ℕ) → ((j : ℕ) → j < i → is_in a j ≡ is_in b j) → is_in a i ≡ true → is_in b i ≡ true
+drawn_to seed steps copies a b x y i same set =
+    let there = (x.drawn i).0 set in
+    (y.drawn i).1 (there.0, there.1, sym (before_same a b (copies - 1) i same) ∙ there.2)
+
+drawn_below : (seed steps copies : ℕ) (a b : List ℕ) → IsDrawn seed steps copies a → IsDrawn seed steps copies b → (n j : ℕ) → j < n → is_in a j ≡ is_in b j
+drawn_below seed steps copies a b x y zero j less = absurd (omega arith)
+drawn_below seed steps copies a b x y (suc n) j less =
+    let same : (i : ℕ) → i < j → is_in a i ≡ is_in b i = λ i before. drawn_below seed steps copies a b x y n i (omega arith) in
+    same_tests (is_in a j) (is_in b j) (drawn_to seed steps copies a b x y j same) (drawn_to seed steps copies b a y x j (λ i before. sym (same i before)))
+
+same_skips : (most : ℕ) (skips : Skips) (a b : List ℕ) → AreSkippedOf most skips a → AreSkippedOf most skips b → is_in a ≡ is_in b
+same_skips most (listed steps) a b x y = ap is_in (x ∙ sym y)
+same_skips most (drawn seed) a b x y =
+    let same : (j : ℕ) → is_in a j ≡ is_in b j = λ j. drawn_below seed most 2 a b x y (suc j) j (omega arith) in
+    λ i j. same j i
+
+-- objects without relocations
+plain_of : (objects : List ObjectParts) → All IsLinkable objects → ArePlain objects
+plain_of objects all = record { each = λ i o e. (All_at IsLinkable objects i o all e).relocs }
+
+-- Inputs whose call can be made are not refused.
+pub call_is_accepted : (c : Call) (files : List (List ℕ)) (spot : Spot) → CanReturn c files → IsRunRefusal c.at c.entry files spot → ⊥
+call_is_accepted c files spot (objects, image, are, linked, entry, entry_is, t, returns) (inl link) = image_is_accepted c.at files spot (objects, image, are, linked) link
+call_is_accepted c files spot (objects, image, are, linked, entry, entry_is, t, returns) (inr (at, (others, its_image, its, its_linked, none))) =
+    let same = same_objects files others objects its are in
+    let here : IsImage objects c.at its_image = subst (λ (os : List ObjectParts). IsImage os c.at its_image) same its_linked in
+    let one : its_image ≡ image = same_image objects c.at (plain_of objects are.form) its_image image here linked in
     no_some entry (sym none ∙ ap (λ (i : Image). entry_of i.entries c.entry) one ∙ entry_is)
   where
     no_some : (a : ℕ) → None ≡ Some a → ⊥
     no_some a e = cc
 
--- Its run returns.
-pub run_returns : (c : Call) (file : List ℕ) (outcome : Outcome) (line : List ℕ) → CanReturn c file → outcome ≢ Returned → HasRun c file outcome line → ⊥
-run_returns c file outcome line (o, image, is, linked, entry, entry_is, t, returns) other has =
+-- Their run returns, under each schedule that skips the same steps.
+pub run_returns : (c d : Call) (files : List (List ℕ)) (outcome : Outcome) (line : List ℕ) → d ≡ record c { schedule = d.schedule } → is_in d.schedule ≡ is_in c.schedule
+    → CanReturn c files → outcome ≢ Returned → HasRun d files outcome line → ⊥
+run_returns c d files outcome line alike skips (objects, image, are, linked, entry, entry_is, t, returns) other has =
     let r = has.run_is in
-    let same : r.call.object ≡ o = one_of file r.call.object o r.call.input is in
-    let here : IsImage (o ∷ []) c.at r.image = subst (λ (x : ObjectParts). IsImage (x ∷ []) c.at r.image) same r.call.image_is in
-    let one : r.image ≡ image = same_image (o ∷ []) c.at (one_plain o is.form.relocs) r.image image here linked in
-    let place : r.call.entry ≡ entry = some_same r.call.entry entry (sym r.call.entry_is ∙ ap (λ (i : Image). entry_of i.entries c.entry) one ∙ entry_is) in
+    let at : d.at ≡ c.at = ap (λ (x : Call). x.at) alike in
+    let named : d.entry ≡ c.entry = ap (λ (x : Call). x.entry) alike in
+    let given : d.arguments ≡ c.arguments = ap (λ (x : Call). x.arguments) alike in
+    let most : d.steps ≡ c.steps = ap (λ (x : Call). x.steps) alike in
+    let same : r.call.objects ≡ objects = same_objects files r.call.objects objects r.call.inputs are in
+    let here : IsImage objects c.at r.image =
+    subst (λ (p : Placement). IsImage objects p r.image) at (subst (λ (os : List ObjectParts). IsImage os d.at r.image) same r.call.image_is) in
+    let one : r.image ≡ image = same_image objects c.at (plain_of objects are.form) r.image image here linked in
+    let place : r.call.entry ≡ entry =
+    some_same r.call.entry entry (sym r.call.entry_is ∙ ap (λ (n : List ℕ). entry_of r.image.entries n) named ∙ ap (λ (i : Image). entry_of i.entries c.entry) one ∙ entry_is) in
     let begun : r.begun ≡ start image c.at.stack entry c.arguments =
-    r.call.start_is ∙ ap (λ (i : Image). start i c.at.stack r.call.entry c.arguments) one ∙ ap (λ (a : ℕ). start image c.at.stack a c.arguments) place in
+    r.call.start_is ∙ ap (λ (i : Image). start i d.at.stack r.call.entry d.arguments) one ∙ ap (λ (a : ℕ). start image d.at.stack a d.arguments) place
+    ∙ ap (λ (p : Placement). start image p.stack entry d.arguments) at ∙ ap (λ (l : List ℕ). start image c.at.stack entry l) given in
     let ends : RunEnds image.code (is_in c.schedule) c.steps 0 (start image c.at.stack entry c.arguments) outcome has.steps has.ended =
-    subst (λ (s : State). RunEnds image.code (is_in c.schedule) c.steps 0 s outcome has.steps has.ended) begun
-    (subst (λ (i : Image). RunEnds i.code (is_in c.schedule) c.steps 0 r.begun outcome has.steps has.ended) one r.ends) in
+    subst (λ (k : ℕ → Bool). RunEnds image.code k c.steps 0 (start image c.at.stack entry c.arguments) outcome has.steps has.ended) skips
+    (subst (λ (n : ℕ). RunEnds image.code (is_in d.schedule) n 0 (start image c.at.stack entry c.arguments) outcome has.steps has.ended) most
+    (subst (λ (s : State). RunEnds image.code (is_in d.schedule) d.steps 0 s outcome has.steps has.ended) begun
+    (subst (λ (i : Image). RunEnds i.code (is_in d.schedule) d.steps 0 r.begun outcome has.steps has.ended) one r.ends))) in
     returns_only image.code (is_in c.schedule) c.steps (start image c.at.stack entry c.arguments) t returns outcome has.steps has.ended other ends
 
--- what was made of an input whose function was run
-pub record IsRunMade (c : Call) (file : List ℕ) (f : Finished) (line : List ℕ) : Type 0 where
-  pub object : ObjectParts
+-- The run that words name returns where it can.
+pub words_return : (r : RunWords) (files : List (List ℕ)) (outcome : Outcome) (line : List ℕ) → CanReturnBy r files → outcome ≢ Returned → HasRunBy r files outcome line → ⊥
+words_return r files outcome line (schedule, is, can) other (its, its_is, has) =
+    run_returns (call_of r schedule) (call_of r its) files outcome line refl (same_skips r.steps r.skips its schedule its_is is) can other has
+
+-- what was made of inputs whose function was run
+pub record IsRunMade (r : RunWords) (files : List (List ℕ)) (f : Finished) (line : List ℕ) : Type 0 where
+  pub objects : List ObjectParts
   pub image : Image
-  pub input : IsOf file object
-  pub image_is : IsImage (object ∷ []) c.at image
+  pub inputs : AreOf files objects
+  pub image_is : IsImage objects r.at image
   pub entry : ℕ
-  pub entry_is : entry_of image.entries c.entry ≡ Some entry
-  pub run_is : IsFinished image c.schedule c.steps (start image c.at.stack entry c.arguments) f
+  pub entry_is : entry_of image.entries r.entry ≡ Some entry
+  pub run_is : IsFinishedBy image (IsScheduleOf r) r.steps (start image r.at.stack entry (option_to_list r.argument)) f
   pub line_is : line ≡ run_line f.outcome f.steps f.r0 f.ordinary
 
-has_run : (c : Call) (file : List ℕ) (f : Finished) (line : List ℕ) → IsRunMade c file f line → HasRun c file f.outcome line
-has_run c file f line made =
-    let r0 = made.run_is.r0_is in
-    record {
-      steps = f.steps;
-      ended = made.run_is.ended;
-      ordinary = f.ordinary;
-      run_is = record {
-        image = made.image;
-        begun = start made.image c.at.stack made.entry c.arguments;
-        call = record { object = made.object; input = made.input; image_is = made.image_is; entry = made.entry; entry_is = made.entry_is; start_is = refl };
-        ends = made.run_is.ends;
-        ordinary_is = made.run_is.ordinary_is;
-      };
-      line_is = made.line_is ∙ ap (λ n. run_line f.outcome f.steps n f.ordinary) r0;
-    }
+has_run : (r : RunWords) (files : List (List ℕ)) (f : Finished) (line : List ℕ) → IsRunMade r files f line → HasRunBy r files f.outcome line
+has_run r files f line made =
+    let run = made.run_is.2 in
+    let r0 = run.r0_is in (
+      made.run_is.0,
+      made.run_is.1,
+      record {
+        steps = f.steps;
+        ended = run.ended;
+        ordinary = f.ordinary;
+        run_is = record {
+          image = made.image;
+          begun = start made.image r.at.stack made.entry (option_to_list r.argument);
+          call = record { objects = made.objects; inputs = made.inputs; image_is = made.image_is; entry = made.entry; entry_is = made.entry_is; start_is = refl };
+          ends = run.ends;
+          ordinary_is = run.ordinary_is;
+        };
+        line_is = made.line_is ∙ ap (λ n. run_line f.outcome f.steps n f.ordinary) r0;
+      },
+    )
 
-ended_so : (c : Call) (file : List ℕ) (outcome : Outcome) (line : List ℕ) → HasRun c file outcome line → IsMadeAs (run_work c) (file ∷ []) [] line (stopped_by outcome)
-ended_so c file Returned line has = (refl, has)
-ended_so c file (Fault kind pc) line has = (λ e. absurd (cc), has)
-ended_so c file Unfinished line has = (λ e. absurd (cc), has)
+ended_so : (r : RunWords) (files : List (List ℕ)) (outcome : Outcome) (line : List ℕ) → HasRunBy r files outcome line → IsMadeAs (run_work r) files [] line (stopped_by outcome)
+ended_so r files Returned line has = (refl, has)
+ended_so r files (Fault kind pc) line has = (λ e. absurd (cc), has)
+ended_so r files Unfinished line has = (λ e. absurd (cc), has)
 
-pub run_made : (c : Call) (file : List ℕ) (f : Finished) (line : List ℕ) → IsRunMade c file f line → IsMadeAs (run_work c) (file ∷ []) [] line (stopped_by f.outcome)
-run_made c file f line made = ended_so c file f.outcome line (has_run c file f line made)
+pub run_made : (r : RunWords) (files : List (List ℕ)) (f : Finished) (line : List ℕ) → IsRunMade r files f line → IsMadeAs (run_work r) files [] line (stopped_by f.outcome)
+run_made r files f line made = ended_so r files f.outcome line (has_run r files f line made)

@@ -1,6 +1,7 @@
--- The work of `link` with one input.
-use Rattle.std.specs.Prelude.{◌≡◌, ◌⊎◌, ℕ, Bool, List, [], ◌∷◌, None, ⊤, if◌then◌else◌}
+-- The work of `link`.
+use Rattle.std.specs.Prelude.{◌≡◌, ◌⊎◌, ℕ, Bool, List, [], ◌∷◌, All, None, ⊤, if◌then◌else◌}
 use Rattle.std.specs.List.{sum_by}
+use Rattle.elf_model.specs.declared.refusals.Refusal.TheVariants.{NotYet}
 use Rattle.elf_model.specs.declared.refusals.Spot.{Spot}
 use Rattle.elf_model.specs.declared.refusals.TheConstants.Limit.{ANY}
 use Rattle.elf_model.specs.declared.objects.Section.{Section}
@@ -9,48 +10,60 @@ use Rattle.thumb_table.specs.declared.placements.Placement.{Placement}
 use Rattle.thumb_table.specs.Parts.{Image}
 use Rattle.thumb_table.specs.Images.{IsImage, is_data, image_bytes}
 use Rattle.thumb_table.specs.LinkFaults.{IsLinkRefusal}
-use Rattle.guard_words.specs.Words.{Pair}
-use Rattle.guard_cli.specs.Inputs.{IsTaken, IsInputRefusal}
+use Rattle.guard_words.specs.Words.{LinkWords}
+use Rattle.guard_cli.specs.FirstForm.{at_start}
+use Rattle.guard_cli.specs.Inputs.{AreReadAs, IsReadRefusal}
 use Rattle.guard_cli.specs.Linkable.{IsLinkable}
 use Rattle.guard_cli.specs.Texts.{link_line}
-use Rattle.guard_cli.specs.Works.{Save, Work, OfOne}
+use Rattle.guard_cli.specs.Works.{Save, Work, inputs_of}
 
 -- the bytes of the sections of a sort, without those between them
 abbrev pub bytes_of : (Section → Bool) → List Section → ℕ
 bytes_of sort sections = sum_by (λ (s : Section). if sort s then s.size else 0) sections
 
-abbrev pub link_report : ObjectParts → List ℕ
-link_report o = link_line (bytes_of is_code o.sections) (bytes_of is_data o.sections)
+abbrev pub bytes_of_all : (Section → Bool) → List ObjectParts → ℕ
+bytes_of_all sort objects = sum_by (λ (o : ObjectParts). bytes_of sort o.sections) objects
 
--- a file that can be linked by its form
-abbrev pub IsOf : List ℕ → ObjectParts → Type 0
-IsOf file o = IsTaken ANY IsLinkable file o
+abbrev pub link_report : List ObjectParts → List ℕ
+link_report objects = link_line (bytes_of_all is_code objects) (bytes_of_all is_data objects)
 
--- When the input is refused: as it is read, or else as it is linked.
-abbrev pub IsLinkInputRefusal : Placement → List ℕ → Spot → Type 0
-IsLinkInputRefusal at file spot =
-    IsInputRefusal ANY IsLinkable file spot ⊎ ((o : ObjectParts) × IsOf file o × IsLinkRefusal (o ∷ []) at spot)
+-- files that can be linked by their form, and their objects
+pub record AreOf (files : List (List ℕ)) (objects : List ObjectParts) : Type 0 where
+  pub read : AreReadAs ANY files objects
+  pub form : All IsLinkable objects
 
--- a file whose object has an image
-abbrev pub HasImage : Placement → List ℕ → Type 0
-HasImage at file = (o : ObjectParts) × (image : Image) × IsOf file o × IsImage (o ∷ []) at image
+-- files without fault, of which one cannot be linked by its form so far
+abbrev pub AreUnlinkable : List (List ℕ) → Type 0
+AreUnlinkable files = (objects : List ObjectParts) × AreReadAs ANY files objects × (All IsLinkable objects → ⊥)
 
--- the image of an input's object, and its sizes
-pub record IsLinkMade (at : Placement) (output file : List ℕ) (saves : List Save) (report : List ℕ) : Type 0 where
-  pub object : ObjectParts
+-- When the inputs are refused by their form: as they are read, or else since one of them is not handled yet.
+abbrev pub IsFormRefusal : List (List ℕ) → Spot → Type 0
+IsFormRefusal files spot = IsReadRefusal ANY files spot ⊎ ((spot ≡ at_start NotYet) × AreUnlinkable files)
+
+-- When the inputs are refused: by their form, or else as they are linked.
+abbrev pub IsLinkInputRefusal : Placement → List (List ℕ) → Spot → Type 0
+IsLinkInputRefusal at files spot = IsFormRefusal files spot ⊎ ((objects : List ObjectParts) × AreOf files objects × IsLinkRefusal objects at spot)
+
+-- files whose objects have an image
+abbrev pub HaveImage : Placement → List (List ℕ) → Type 0
+HaveImage at files = (objects : List ObjectParts) × (image : Image) × AreOf files objects × IsImage objects at image
+
+-- the image of the inputs' objects, and its sizes
+pub record IsLinkMade (l : LinkWords) (files : List (List ℕ)) (saves : List Save) (report : List ℕ) : Type 0 where
+  pub objects : List ObjectParts
   pub image : Image
-  pub input : IsOf file object
-  pub image_is : IsImage (object ∷ []) at image
-  pub saves_are : saves ≡ record { name = output; bytes = image_bytes image } ∷ []
-  pub report_is : report ≡ link_report object
+  pub inputs : AreOf files objects
+  pub image_is : IsImage objects l.at image
+  pub saves_are : saves ≡ record { name = l.output; bytes = image_bytes image } ∷ []
+  pub report_is : report ≡ link_report objects
 
-abbrev pub link_work : Placement → Pair → Work
-link_work at p = record {
+abbrev pub link_work : LinkWords → Work
+link_work l = record {
   at_once = None;
-  inputs = record { name = p.input; limit = ANY.file } ∷ [];
-  Accepts = OfOne (HasImage at);
-  Refuses = λ loaded spot. OfOne (λ file. IsLinkInputRefusal at file spot) loaded;
-  Makes = λ loaded saves report. OfOne (λ file. IsLinkMade at p.output file saves report) loaded;
+  inputs = inputs_of ANY.file l.inputs;
+  Accepts = HaveImage l.at;
+  Refuses = IsLinkInputRefusal l.at;
+  Makes = IsLinkMade l;
   Stops = λ loaded outcome line. ⊥;
   Promises = λ loaded saves report before after. ⊤;
 }

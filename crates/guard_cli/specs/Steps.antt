@@ -1,6 +1,6 @@
 -- What the steps of a command say.
-use Rattle.std.specs.Prelude.{◌≡◌, ◌≢◌, ◌≤◌, ◌↔◌, ℕ, true, List, [], ◌∷◌, map, Option, Some, None, ⊤, IsTrue, string_bytes}
-use Rattle.std.specs.Option.{option_to_list}
+use Rattle.std.specs.Prelude.{◌≡◌, ◌≢◌, ◌≤◌, ◌↔◌, ℕ, Bool, true, List, [], ◌∷◌, ◌++◌, length, map, Option, Some, None, ⊤, IsTrue, string_bytes, Vec}
+use Rattle.std.specs.declared.alloc.Global.{Global}
 use Rattle.elf_model.specs.declared.refusals.TheConstants.Limit.{INPUT, ANY}
 use Rattle.thumb_table.specs.Parts.{Image}
 use Rattle.thumb_table.specs.States.{State, read}
@@ -13,7 +13,6 @@ use Rattle.guard_cli.specs.declared.endings.Ending.{Ending}
 use Rattle.guard_cli.specs.declared.endings.Ending.TheVariants.{Done, ReadFault, WriteFault, PrintFault, NoMemory, Stopped}
 use Rattle.guard_cli.specs.declared.tasks.Made.{Made}
 use Rattle.guard_cli.specs.declared.outputs.Output.{Output}
-use Rattle.guard_words.specs.declared.tasks.RunCommand.{RunCommand}
 use Rattle.guard_words.specs.declared.tasks.Task.{Task}
 use Rattle.guard_words.specs.declared.tasks.Task.TheVariants as task
 use Rattle.guard_cli.specs.declared.run.Finished.{Finished}
@@ -21,26 +20,21 @@ use Rattle.guard_cli.specs.declared.texts.Counts.{Counts}
 use Rattle.guard_words.specs.Tasks.{meaning_by}
 use Rattle.guard_cli.specs.Texts.{Tally, no_memory_line, read_fault_line}
 use Rattle.guard_cli.specs.Moments.{Files, Screen, Untouched, IsPut, IsCutOff, IsToldOf}
-use Rattle.guard_cli.specs.Works.{Save, Work}
-use Rattle.guard_cli.specs.Endings.{FinishesAs, IsUnsaved, IsPartlyDone}
-use Rattle.guard_cli.specs.MachineRuns.{Call}
+use Rattle.guard_cli.specs.Works.{Input, Save, Contents, Work, AreLoaded}
+use Rattle.guard_cli.specs.Endings.{FinishesAs, IsUnsaved, IsPartlyDone, IsUnread}
 use Rattle.guard_cli.specs.Meant.{work_of}
 use Rattle.guard_io.specs.Outside.{Rose}
-
--- the run that a command names
-abbrev pub call_by : RunCommand → Call
-call_by c = record { at = c.at; input = c.input.now; entry = c.entry.now; arguments = option_to_list c.argument; steps = c.steps; schedule = c.plan }
 
 -- the work of a command that is carried out
 abbrev pub work_by : Task → Work
 work_by t = work_of (meaning_by t)
 
--- its input, and how many bytes that may have
-abbrev pub input_by : Task → List ℕ
-input_by (task.Harden input output) = input.now
-input_by (task.Link c) = c.input.now
-input_by (task.Run c) = c.input.now
-input_by (task.List input) = input.now
+-- its inputs, and how many bytes each may have
+abbrev pub names_by : Task → List (List ℕ)
+names_by (task.Harden input output) = input.now ∷ []
+names_by (task.Link c) = map string_bytes c.inputs.now
+names_by (task.Run c) = map string_bytes c.inputs.now
+names_by (task.List input) = input.now ∷ []
 
 abbrev pub limit_by : Task → ℕ
 limit_by (task.Harden input output) = INPUT.file
@@ -48,12 +42,21 @@ limit_by (task.Link c) = ANY.file
 limit_by (task.Run c) = ANY.file
 limit_by (task.List input) = ANY.file
 
+-- one to sixteen inputs
+pub record HasFewInputs (t : Task) : Type 0 where
+  pub some : 1 ≤ length (names_by t)
+  pub few : length (names_by t) ≤ 16
+
 -- numbers that the words of a command have
 abbrev pub IsSound : Task → Type 0
 IsSound (task.Harden input output) = ⊤
 IsSound (task.Link c) = IsPlacement c.at
 IsSound (task.Run c) = IsPlacement c.at × (c.steps ≤ 10000000)
 IsSound (task.List input) = ⊤
+
+-- what files hold
+abbrev pub contents_of : List (Vec ℕ Global) → List (List ℕ)
+contents_of files = map (λ (v : Vec ℕ Global). v.items) files
 
 -- the outputs as the files that are saved
 abbrev pub save_of : Output → Save
@@ -109,11 +112,23 @@ pub record IsNotLoaded (name : List ℕ) (old new : Files) (screen after : Scree
   pub absent : IsTrue old.steady → old.content name ≡ None
   pub said : IsToldOf (read_fault_line name) screen after
 
--- how a command ends that could not load its input
+-- how a command ends that could not load one of its inputs, and all of them
 abbrev pub LoadFailsAs : List ℕ → Files → Files → Screen → Screen → Ending → Type 0
 LoadFailsAs name old new screen after ReadFault = IsNotLoaded name old new screen after
 LoadFailsAs name old new screen after NoMemory = IsToldOf no_memory_line screen after
 LoadFailsAs name old new screen after _ = ⊥
+
+abbrev pub LoadsFailAs : List Input → Files → Files → Screen → Screen → Ending → Type 0
+LoadsFailAs inputs old new screen after ReadFault = IsUnread inputs old new screen after
+LoadsFailAs inputs old new screen after NoMemory = IsToldOf no_memory_line screen after
+LoadsFailAs inputs old new screen after _ = ⊥
+
+-- More was loaded: the first bytes of each of these inputs.
+pub record AddsLoaded (told : Bool) (content : Contents) (inputs : List Input) (old new : List (List ℕ)) : Type 0 where
+  pub more : List (List ℕ)
+  pub adds : new ≡ old ++ more
+  pub count : length more ≡ length inputs
+  pub loaded : IsTrue told → AreLoaded content inputs more
 
 -- the counts of an output of this name
 abbrev pub tally_with : List ℕ → Counts → Tally
@@ -139,3 +154,7 @@ pub record IsFinished (image : Image) (schedule : List ℕ) (most : ℕ) (begun 
   pub ends : RunEnds image.code (is_in schedule) most 0 begun f.outcome f.steps ended
   pub r0_is : f.r0 ≡ (read ended.core 0).bits
   pub ordinary_is : (f.ordinary ≡ true) ↔ OrdinaryRun image.code (is_in schedule) f.steps 0 begun
+
+-- the same under one of some schedules
+abbrev pub IsFinishedBy : Image → (List ℕ → Type 0) → ℕ → State → Finished → Type 0
+IsFinishedBy image IsSchedule most begun f = (schedule : List ℕ) × IsSchedule schedule × IsFinished image schedule most begun f

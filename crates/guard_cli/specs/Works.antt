@@ -42,6 +42,10 @@ AreLoaded content (i ∷ inputs) (bytes ∷ loaded) = IsLoaded (content i.name) 
 AreLoaded content [] (bytes ∷ loaded) = ⊥
 AreLoaded content (i ∷ inputs) [] = ⊥
 
+-- the inputs of these names, which may have so many bytes
+abbrev pub inputs_of : ℕ → List (List ℕ) → List Input
+inputs_of limit names = map (λ name. record { name = name; limit = limit }) names
+
 -- the input of this number, or else the last
 abbrev pub input_named : List Input → ℕ → List ℕ
 input_named [] k = []
@@ -59,7 +63,7 @@ OfOne P (bytes ∷ more ∷ loaded) = ⊥
 abbrev pub not_yet : List (List ℕ) → Work
 not_yet names = record {
   at_once = Some (at_start NotYet);
-  inputs = map (λ name. record { name = name; limit = 0 }) names;
+  inputs = inputs_of 0 names;
   Accepts = λ loaded. ⊥;
   Refuses = λ loaded spot. ⊥;
   Makes = λ loaded saves report. ⊥;

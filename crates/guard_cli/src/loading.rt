@@ -1,27 +1,23 @@
-//! Inputs: their bytes, their objects, and the images of these.
+//! Inputs: their bytes and their objects.
 
-ghost use Rattle.std.specs.Prelude.{◌≡◌, ◌≤◌, [], ◌∷◌, length, IfOk, IfErr, OnOk, IsTrue, IsSome};
+ghost use Rattle.std.specs.Prelude.{◌≡◌, ◌≤◌, ℕ, List, [], length, map, All, IfOk, IfErr, OnOk, IsTrue, IsSome, MatchOption, string_bytes};
 ghost use Rattle.guard_io.specs.Outside.{IsLoaded};
-ghost use Rattle.elf_model.specs.Objects.{is_code, is_within};
-ghost use Rattle.thumb_table.specs.Layouts.{IsPlacement};
-ghost use Rattle.thumb_table.specs.Images.{IsImage, is_data};
-ghost use Rattle.thumb_table.specs.LinkFaults.{IsLinkDenial};
+ghost use Rattle.elf_model.specs.Objects.{is_within};
 ghost use Rattle.guard_cli.specs.FirstForm.{at_start};
-ghost use Rattle.guard_cli.specs.Inputs.{IsTaken, IsInputRefusal, IsTurnedDown};
-ghost use Rattle.guard_cli.specs.Linkable.{IsLinkable};
+ghost use Rattle.guard_cli.specs.Inputs.{AreReadAs, IsTooLong, IsFaulty, IsTurnedDown, in_file, deny_in};
+ghost use Rattle.guard_cli.specs.LinkWork.{AreOf, IsFormRefusal};
 ghost use Rattle.guard_cli.specs.Moments.{files_seen, screen_seen, IsHandedOn, CountsStay, Untouched};
-ghost use Rattle.guard_cli.specs.Steps.{LoadFailsAs};
+ghost use Rattle.guard_cli.specs.Steps.{contents_of, AddsLoaded, LoadFailsAs, LoadsFailAs};
+ghost use Rattle.guard_cli.specs.Works.{inputs_of};
 
 use crate::Ending;
 use crate::finishing::{give_up, tell};
-use crate::linkable::is_linkable;
+use crate::linkable::are_linkable;
 use crate::texts::read_fault_text;
 use elf_model::{Deny, Limit, Object, Refusal, Spot};
 use elf_read::read_object;
-use flat_link::link;
 use guard_io::{LoadErr, Shelf, Sink};
 use std::alloc::Global;
-use thumb_table::{Image, Placement};
 
 /// Loads an input, or says why it has no bytes.
 pub(crate) fn load_input<S: Shelf, K: Sink>(
@@ -58,33 +54,115 @@ pub(crate) fn load_input<S: Shelf, K: Sink>(
     }
 }
 
-/// The object of an input that can be linked.
-pub(crate) fn object_of(alloc: Global, bytes: &[u8]) -> Result<Object, Deny>
-    ensures taken { IfOk result (IsTaken Limit.ANY IsLinkable bytes.now) }
-    ensures within { IfOk result (λ object. IsTrue (is_within object Limit.ANY)) }
-    ensures refused { IfErr result (IsTurnedDown (IsInputRefusal Limit.ANY IsLinkable bytes.now)) }
+/// Loads the inputs of these names in their order, behind those that are loaded, or says why one of them
+/// has no bytes.
+pub(crate) fn load_all<S: Shelf, K: Sink>(
+    alloc: Global,
+    names: &[String],
+    limit: u32,
+    loaded: &mut Vec<Vec<u8>>,
+    shelf: &mut S,
+    out: &mut K,
+) -> Result<(), Ending>
+    ensures loaded { OnOk result (AddsLoaded (S.tells shelf.old) (S.file shelf.old) (inputs_of limit (map string_bytes names.now))
+        (contents_of loaded.old.items) (contents_of loaded.new.items)) }
+    ensures silent { OnOk result (out.new ≡ out.old) }
+    ensures untouched { let files = files_seen S.tells S.file S.steady S.load_faults S.save_faults in Untouched (files shelf.old) (files shelf.new) }
+    ensures failed { let files = files_seen S.tells S.file S.steady S.load_faults S.save_faults in
+        let screen = screen_seen K.tells K.written K.steady K.faults K.wants in
+        IfErr result (LoadsFailAs (inputs_of limit (map string_bytes names.now)) (files shelf.old) (files shelf.new) (screen out.old) (screen out.new)) }
+    ensures handed_on { let files = files_seen S.tells S.file S.steady S.load_faults S.save_faults in
+        let screen = screen_seen K.tells K.written K.steady K.faults K.wants in
+        IsHandedOn (files shelf.old) (files shelf.new) (screen out.old) (screen out.new) }
+    ensures calm { let files = files_seen S.tells S.file S.steady S.load_faults S.save_faults in
+        let screen = screen_seen K.tells K.written K.steady K.faults K.wants in
+        IsTrue (S.steady shelf.old) → IsTrue (K.steady out.old) →
+        All (λ (name : List ℕ). IsSome (S.file shelf.old name)) (map string_bytes names.now) →
+        CountsStay (files shelf.old) (files shelf.new) (screen out.old) (screen out.new) }
 {
-    if bytes.len() > Limit::ANY.file as usize {
-        return Err(Deny::Refused(at_start(Refusal::TooLong)));
+    let [name, later @ ..] = names else {
+        return Ok(());
+    };
+    let bytes = match load_input(alloc, name.as_str(), limit as usize + 1, shelf, out) {
+        Ok(bytes) => bytes,
+        Err(ending) => return Err(ending),
+    };
+    if loaded.push(bytes).is_err() {
+        return Err(give_up(out));
     }
-    let read = read_object(alloc, bytes, &Limit::ANY)?;
-    if !is_linkable(&read.object) {
-        return Err(Deny::Refused(at_start(Refusal::NotYet)));
-    }
-    Ok(read.object)
+    load_all(alloc, later, limit, loaded, shelf, out)
 }
 
-/// The image of an object.
-pub(crate) fn image_of(alloc: Global, object: Object, at: &Placement) -> Result<Image, Deny>
-    requires within { IsTrue (is_within object Limit.ANY) }
-    requires plain { object.relocs ≡ [] }
-    requires placement { IsPlacement at.now }
-    ensures image { IfOk result (IsImage (object ∷ []) at.now) }
-    ensures refused { IfErr result (IsLinkDenial (object ∷ []) at.now) }
+/// The objects of inputs that can be linked.
+pub(crate) fn objects_of(alloc: Global, files: &[Vec<u8>]) -> Result<Vec<Object>, Deny>
+    requires { length files.now ≤ 16 }
+    ensures taken { IfOk result (λ objects. AreOf (contents_of files.now) objects.items) }
+    ensures few { IfOk result (λ objects. length objects.items ≤ 16) }
+    ensures within { IfOk result (λ objects. All (λ o. IsTrue (is_within o Limit.ANY)) objects.items) }
+    ensures plain { IfOk result (λ objects. All (λ o. o.relocs ≡ []) objects.items) }
+    ensures refused { IfErr result (IsTurnedDown (IsFormRefusal (contents_of files.now))) }
+{
+    if let Some(number) = first_too_long(files) {
+        return Err(Deny::Refused(in_file(number, at_start(Refusal::TooLong))));
+    }
+    let objects = read_all(alloc, files)?;
+    if !are_linkable(&objects) {
+        return Err(Deny::Refused(at_start(Refusal::NotYet)));
+    }
+    Ok(objects)
+}
+
+/// The number of the first file that is longer than it may be.
+fn first_too_long(files: &[Vec<u8>]) -> Option<u32>
+    requires { length files.now ≤ 16 }
+    ensures { MatchOption result (All (λ f. length f ≤ Limit.ANY.file) (contents_of files.now))
+        (λ k. IsTooLong Limit.ANY (contents_of files.now) (in_file k (at_start Refusal.TooLong))) }
+{
+    for (k, file) in files.iter().enumerate() {
+        if file.len() > Limit::ANY.file as usize {
+            return Some(k as u32);
+        }
+    }
+    None
+}
+
+/// The objects of files none of which is too long, or the first fault of the first that has one.
+fn read_all(alloc: Global, files: &[Vec<u8>]) -> Result<Vec<Object>, Deny>
+    requires few { length files.now ≤ 16 }
+    requires short { All (λ f. length f ≤ Limit.ANY.file) (contents_of files.now) }
+    ensures read { IfOk result (λ objects. AreReadAs Limit.ANY (contents_of files.now) objects.items) }
+    ensures refused { IfErr result (IsTurnedDown (IsFaulty Limit.ANY (contents_of files.now))) }
 {
     let mut objects = Vec::new(alloc);
-    objects.push(object)?;
-    link(alloc, &objects, at)
+    for (k, file) in files.iter().enumerate() {
+        match read_object(alloc, file, &Limit::ANY) {
+            Ok(read) => objects.push(read.object)?,
+            Err(why) => return Err(deny_in(k as u32, why)),
+        }
+    }
+    Ok(objects)
+}
+
+/// The same of the input of this number.
+fn deny_in(number: u32, why: Deny) -> Deny
+    ensures { result ≡ deny_in number why }
+{
+    match why {
+        Deny::NoMemory => Deny::NoMemory,
+        Deny::Refused(spot) => Deny::Refused(in_file(number, spot)),
+    }
+}
+
+/// A place in the input of this number.
+fn in_file(number: u32, spot: Spot) -> Spot
+    ensures { result ≡ in_file number spot }
+{
+    Spot {
+        refusal: spot.refusal,
+        file: number,
+        section: spot.section,
+        offset: spot.offset,
+    }
 }
 
 /// A refusal of a whole input, the first one.

@@ -1,31 +1,39 @@
-//! What `run` makes of an input: a call of a function of its image.
+//! What `run` makes of inputs: a call of a function of their image.
 
-ghost use Rattle.std.specs.Prelude.{◌≡◌, ◌≤◌, ◌∷◌, [], length, IfOk, IfErr, string_bytes};
+ghost use Rattle.std.specs.Prelude.{◌≡◌, ◌≤◌, [], length, IfOk, IfErr, string_bytes};
+ghost use Rattle.std.specs.Option.{option_to_list};
 ghost use Rattle.thumb_table.specs.Layouts.{IsPlacement};
 ghost use Rattle.thumb_table.specs.Calls.{start};
 ghost use Rattle.skip_machine.specs.Machines.{CanRun};
+ghost use Rattle.guard_words.specs.Tasks.{skips_by, run_words};
 ghost use Rattle.guard_cli.specs.Inputs.{IsTurnedDown};
-ghost use Rattle.guard_cli.specs.MachineRuns.{IsRunRefusal, run_line, run_work};
-ghost use Rattle.guard_cli.specs.Steps.{IsFinished, IsMadeBy, call_by, stopped_by};
+ghost use Rattle.guard_cli.specs.MachineRuns.{AreSkippedOf, IsRunRefusal, run_line, run_work};
+ghost use Rattle.guard_cli.specs.Steps.{contents_of, IsFinished, IsFinishedBy, IsMadeBy, stopped_by};
 
-use crate::loading::{at_start, image_of, object_of};
+use crate::loading::{at_start, objects_of};
 use crate::tasks::{Made, saying};
 use crate::texts::{returned_text, stopped_text, unfinished_text};
 use elf_model::{Deny, Refusal};
-use guard_words::RunCommand;
+use flat_link::link;
+use guard_words::{RunCommand, Skipped};
 use skip_machine::{Machine, Outcome, Plan};
 use std::alloc::{AllocError, Global};
 use thumb_table::Image;
 
-/// What comes of a run of a function of an input's image, or why there is none.
-pub(crate) fn decide(alloc: Global, command: &RunCommand<'_>, bytes: &[u8]) -> Result<Made, Deny>
+/// What comes of a run of a function of the inputs' image, or why there is none.
+pub(crate) fn decide(
+    alloc: Global,
+    command: &RunCommand<'_>,
+    files: &[Vec<u8>],
+) -> Result<Made, Deny>
     requires placement { IsPlacement command.now.at }
     requires steps { command.now.steps ≤ 10000000 }
-    ensures made { IfOk result (IsMadeBy (run_work (call_by command.now)) (bytes.now ∷ [])) }
-    ensures refused { IfErr result (IsTurnedDown (IsRunRefusal (call_by command.now) bytes.now)) }
+    requires few { length files.now ≤ 16 }
+    ensures made { IfOk result (IsMadeBy (run_work (run_words command.now)) (contents_of files.now)) }
+    ensures refused { let c = command.now in IfErr result (IsTurnedDown (IsRunRefusal c.at c.entry.now (contents_of files.now))) }
 {
-    let object = object_of(alloc, bytes)?;
-    let image = image_of(alloc, object, &command.at)?;
+    let objects = objects_of(alloc, files)?;
+    let image = link(alloc, &objects, &command.at)?;
     let Some(entry) = image.entry(command.entry.as_bytes()) else {
         return Err(Deny::Refused(at_start(Refusal::NoEntry)));
     };
@@ -63,29 +71,36 @@ fn run_command(
 ) -> Result<Finished, AllocError>
     requires can { CanRun image.now command.now.at.stack }
     requires steps { command.now.steps ≤ 10000000 }
-    ensures { let c = call_by command.now in
-        IfOk result (IsFinished image.now c.schedule c.steps (start image.now c.at.stack entry c.arguments)) }
+    ensures { let c = command.now in
+        IfOk result (IsFinishedBy image.now (AreSkippedOf c.steps (skips_by c.skipped)) c.steps (start image.now c.at.stack entry (option_to_list c.argument))) }
+{
+    match &command.skipped {
+        Skipped::Listed(plan) => run_plan(alloc, image, entry, command, plan),
+        Skipped::Drawn(seed) => {
+            let plan = Plan::drawn(alloc, *seed, command.steps, 2)?;
+            run_plan(alloc, image, entry, command, &plan)
+        }
+    }
+}
+
+/// Runs a function of an image as a command says, under a plan.
+fn run_plan(
+    alloc: Global,
+    image: &Image,
+    entry: u32,
+    command: &RunCommand<'_>,
+    plan: &Plan,
+) -> Result<Finished, AllocError>
+    requires can { CanRun image.now command.now.at.stack }
+    requires steps { command.now.steps ≤ 10000000 }
+    ensures { let c = command.now in
+        IfOk result (IsFinished image.now plan.now c.steps (start image.now c.at.stack entry (option_to_list c.argument))) }
 {
     let stack = command.at.stack;
+    let steps = command.steps;
     match command.argument {
-        None => run_image(
-            alloc,
-            image,
-            stack,
-            entry,
-            &[],
-            command.steps,
-            &command.plan,
-        ),
-        Some(argument) => run_image(
-            alloc,
-            image,
-            stack,
-            entry,
-            &[argument],
-            command.steps,
-            &command.plan,
-        ),
+        None => run_image(alloc, image, stack, entry, &[], steps, plan),
+        Some(argument) => run_image(alloc, image, stack, entry, &[argument], steps, plan),
     }
 }
 

@@ -1,8 +1,8 @@
-//! A command that is carried out, and what is made of its input.
+//! A command that is carried out, and what is made of its inputs.
 
-ghost use Rattle.std.specs.Prelude.{◌≡◌, ◌+◌, IfOk, IfErr, [], ◌∷◌, string_bytes};
+ghost use Rattle.std.specs.Prelude.{◌≡◌, IfOk, IfErr, [], ◌∷◌, length, map, string_bytes};
 ghost use Rattle.guard_cli.specs.Inputs.{IsTurnedDown};
-ghost use Rattle.guard_cli.specs.Steps.{input_by, limit_by, work_by, IsSound, IsMadeBy, IsSaving, IsSaying};
+ghost use Rattle.guard_cli.specs.Steps.{names_by, limit_by, work_by, HasFewInputs, IsSound, contents_of, IsMadeBy, IsSaving, IsSaying};
 
 use crate::outputs::Output;
 use crate::texts::write_fault_text;
@@ -12,7 +12,7 @@ use guard_words::Task;
 use skip_machine::Outcome;
 use std::alloc::{AllocError, Global};
 
-/// What is made of an input: the outputs in the order in which they are saved, what is said, and how a
+/// What is made of inputs: the outputs in the order in which they are saved, what is said, and how a
 /// run ended that did not return.
 #[derive(Debug, Drop)]
 pub(crate) struct Made {
@@ -52,38 +52,56 @@ pub(crate) fn saying(alloc: Global, report: Vec<u8>, stopped: Option<Outcome>) -
     }
 }
 
-/// The input of a command.
-pub(crate) fn input_of<'a>(task: &Task<'a>) -> &'a str
-    ensures { result.now ≡ input_by task.now }
+/// The inputs of a command, by their names.
+pub(crate) fn names_of(alloc: Global, task: &Task<'_>) -> Result<Vec<String>, AllocError>
+    ensures { IfOk result (λ names. map string_bytes names.items ≡ names_by task.now) }
 {
     match task {
-        Task::Harden { input, .. } => input,
-        Task::Link(command) => command.input,
-        Task::Run(command) => command.input,
-        Task::List { input } => input,
+        Task::Harden { input, .. } => one_name(alloc, input),
+        Task::Link(command) => all_names(alloc, command.inputs),
+        Task::Run(command) => all_names(alloc, command.inputs),
+        Task::List { input } => one_name(alloc, input),
     }
 }
 
-/// How much of the input is loaded: one byte more than it may have.
-pub(crate) fn most_of(task: &Task<'_>) -> usize
-    ensures { result ≡ limit_by task.now + 1 }
+fn one_name(alloc: Global, name: &str) -> Result<Vec<String>, AllocError>
+    ensures { IfOk result (λ names. map string_bytes names.items ≡ name.now ∷ []) }
+{
+    Ok(vec![in alloc; String::from_str(alloc, name)?]?)
+}
+
+fn all_names(alloc: Global, names: &[String]) -> Result<Vec<String>, AllocError>
+    ensures { IfOk result (λ copied. map string_bytes copied.items ≡ map string_bytes names.now) }
+{
+    let mut copied = Vec::new(alloc);
+    for name in names {
+        copied.push(String::from_str(alloc, name.as_str())?)?;
+    }
+    Ok(copied)
+}
+
+/// How many bytes each input may have.
+pub(crate) fn limit_of(task: &Task<'_>) -> u32
+    ensures { result ≡ limit_by task.now }
 {
     match task {
-        Task::Harden { .. } => Limit::INPUT.file as usize + 1,
-        _ => Limit::ANY.file as usize + 1,
+        Task::Harden { .. } => Limit::INPUT.file,
+        _ => Limit::ANY.file,
     }
 }
 
-/// What is made of an input of these bytes, or why there is nothing.
-pub(crate) fn decide(alloc: Global, task: &Task<'_>, bytes: &[u8]) -> Result<Made, Deny>
-    requires { IsSound task.now }
-    ensures made { IfOk result (IsMadeBy (work_by task.now) (bytes.now ∷ [])) }
-    ensures refused { let w = work_by task.now in IfErr result (IsTurnedDown (w.Refuses (bytes.now ∷ []))) }
+/// What is made of inputs of these bytes, or why there is nothing.
+pub(crate) fn decide(alloc: Global, task: &Task<'_>, files: &[Vec<u8>]) -> Result<Made, Deny>
+    requires sound { IsSound task.now }
+    requires inputs { HasFewInputs task.now }
+    requires count { length files.now ≡ length (names_by task.now) }
+    ensures made { IfOk result (IsMadeBy (work_by task.now) (contents_of files.now)) }
+    ensures refused { let w = work_by task.now in IfErr result (IsTurnedDown (w.Refuses (contents_of files.now))) }
 {
     match task {
-        Task::Harden { output, .. } => harden::decide(alloc, output, bytes),
-        Task::Link(command) => link::decide(alloc, command, bytes),
-        Task::Run(command) => run::decide(alloc, command, bytes),
-        Task::List { .. } => list::decide(alloc, bytes),
+        Task::Harden { output, .. } => harden::decide(alloc, output, &files[0]),
+        Task::Link(command) => link::decide(alloc, command, files),
+        Task::Run(command) => run::decide(alloc, command, files),
+        Task::List { .. } => list::decide(alloc, &files[0]),
     }
 }

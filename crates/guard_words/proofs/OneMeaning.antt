@@ -12,7 +12,10 @@ use Rattle.guard_words.specs.declared.settings.Schedule.{Schedule}
 use Rattle.guard_words.specs.declared.settings.Schedule.TheVariants.{Listed, Drawn}
 use Rattle.guard_words.specs.Words.{Pair, names_of, IsHarden, IsNumberOf, IsPlacedBy, LinkWords, IsLink, Skips, listed, drawn, AreSkips, RunWords, IsRunBy, IsRun, IsList, Setting, same_option, value_of, AreArranged}
 use Rattle.guard_words.specs.Meanings.{harden, link, run, list, IsCommand}
-use Rattle.guard_words.specs.Arranged.{value_in, AreOptions, IsPlacing, IsSaid, IsSchedule}
+use Rattle.guard_words.specs.Arranged.{value_in, AreOptions, IsPlacing, IsSaid, IsSchedule, IsListed, AreSkippedBy}
+use Rattle.guard_words.specs.Tasks.{skips_by}
+use Rattle.guard_words.specs.declared.tasks.Skipped.{Skipped}
+use Rattle.guard_words.specs.declared.tasks.Skipped.TheVariants as skipped
 use Rattle.skip_machine.proofs.PlanSteps.{same_plan}
 use Rattle.guard_words.proofs.NumberTexts.{same_number}
 use Rattle.guard_words.proofs.Arrangements.{absent, same_arrangement}
@@ -266,7 +269,13 @@ is_run rest settings files o s skips are options said are_skips some few =
       few = few;
     }
 
--- a schedule that was read is some skips
-pub skips_read : (skip seed : Option (List ℕ)) (s : Schedule) → IsSchedule skip seed s → (skips : Skips) × AreSkips skip seed skips
-skips_read skip seed (Listed text) h = (listed h.0.0, h.1 h.0.0 h.0.1)
-skips_read skip seed (Drawn n) h = (drawn n, h)
+-- a plan that was read of a schedule is what the options say
+pub listed_read : (skip seed : Option (List ℕ)) (s : Schedule) → IsSchedule skip seed s → IsListed s → (steps : List ℕ) × AreSkips skip seed (listed steps)
+listed_read skip seed (Listed text) h l = (h.0.0, h.1 h.0.0 h.0.1)
+listed_read skip seed (Drawn n) h l = absurd l
+
+pub skips_read : (skip seed : Option (List ℕ)) (s : Schedule) (k : Skipped) → IsSchedule skip seed s → AreSkippedBy s k → AreSkips skip seed (skips_by k)
+skips_read skip seed (Listed text) (skipped.Listed plan) h are = h.1 plan are
+skips_read skip seed (Drawn n) (skipped.Drawn m) h are = subst (λ (k : ℕ). AreSkips skip seed (drawn k)) (sym are) h
+skips_read skip seed (Listed text) (skipped.Drawn m) h are = absurd are
+skips_read skip seed (Drawn n) (skipped.Listed plan) h are = absurd are

@@ -1,5 +1,5 @@
 -- What is read of words with options.
-use Rattle.std.specs.Prelude.{◌≡◌, ◌≤◌, ◌++◌, ℕ, List, Option, Some, None}
+use Rattle.std.specs.Prelude.{◌≡◌, ◌≤◌, ◌++◌, ℕ, List, Option, Some, None, ⊤}
 use Rattle.std.specs.Option.{option_copied}
 use Rattle.skip_machine.specs.Plans.{IsPlanText}
 use Rattle.guard_words.specs.declared.options.OptionName.{OptionName}
@@ -8,6 +8,8 @@ use Rattle.guard_words.specs.declared.options.Options.{Options}
 use Rattle.guard_words.specs.declared.settings.Said.{Said}
 use Rattle.guard_words.specs.declared.settings.Schedule.{Schedule}
 use Rattle.guard_words.specs.declared.settings.Schedule.TheVariants.{Listed, Drawn}
+use Rattle.guard_words.specs.declared.tasks.Skipped.{Skipped}
+use Rattle.guard_words.specs.declared.tasks.Skipped.TheVariants as skipped
 use Rattle.guard_words.specs.Words.{IsFileName, Setting, spelled, value_of, IsNumberOf, IsPlacedBy, AreSkips, listed, drawn}
 
 -- the value of an option, if it was read
@@ -34,6 +36,17 @@ abbrev pub IsSchedule : Option (List ℕ) → Option (List ℕ) → Schedule →
 IsSchedule skip seed (Listed text) =
     ((steps : List ℕ) × IsPlanText 2 text.now steps) × ((steps : List ℕ) → IsPlanText 2 text.now steps → AreSkips skip seed (listed steps))
 IsSchedule skip seed (Drawn n) = AreSkips skip seed (drawn n)
+
+-- a schedule of a plan's text
+abbrev pub IsListed : Schedule → Type 0
+IsListed (Listed text) = ⊤
+IsListed (Drawn n) = ⊥
+
+-- the steps that a schedule skips
+abbrev pub AreSkippedBy : Schedule → Skipped → Type 0
+AreSkippedBy (Listed text) (skipped.Listed plan) = IsPlanText 2 text.now plan
+AreSkippedBy (Drawn n) (skipped.Drawn seed) = seed ≡ n
+AreSkippedBy _ _ = ⊥
 
 -- no option but `--base` and `--room`
 pub record IsPlacing (value : OptionName → Option (List ℕ)) : Type 0 where

@@ -1,17 +1,30 @@
 -- What the words mean of a command that is carried out.
-use Rattle.std.specs.Prelude.{[], ◌∷◌}
+use Rattle.std.specs.Prelude.{[], ◌∷◌, map, string_bytes}
 use Rattle.guard_words.specs.declared.tasks.LinkCommand.{LinkCommand}
 use Rattle.guard_words.specs.declared.tasks.RunCommand.{RunCommand}
+use Rattle.guard_words.specs.declared.tasks.Skipped.{Skipped}
+use Rattle.guard_words.specs.declared.tasks.Skipped.TheVariants.{Listed, Drawn}
 use Rattle.guard_words.specs.declared.tasks.Task.{Task}
 use Rattle.guard_words.specs.declared.tasks.Task.TheVariants as task
-use Rattle.guard_words.specs.Words.{LinkWords, RunWords, listed}
+use Rattle.guard_words.specs.Words.{LinkWords, RunWords, Skips, listed, drawn}
 use Rattle.guard_words.specs.Meanings.{Meaning, harden, link, run, list}
 
 abbrev pub link_words : LinkCommand → LinkWords
-link_words c = record { at = c.at; output = c.output.now; inputs = c.input.now ∷ [] }
+link_words c = record { at = c.at; output = c.output.now; inputs = map string_bytes c.inputs.now }
+
+abbrev pub skips_by : Skipped → Skips
+skips_by (Listed plan) = listed plan
+skips_by (Drawn seed) = drawn seed
 
 abbrev pub run_words : RunCommand → RunWords
-run_words c = record { at = c.at; entry = c.entry.now; argument = c.argument; steps = c.steps; skips = listed c.plan; inputs = c.input.now ∷ [] }
+run_words c = record {
+  at = c.at;
+  entry = c.entry.now;
+  argument = c.argument;
+  steps = c.steps;
+  skips = skips_by c.skipped;
+  inputs = map string_bytes c.inputs.now;
+}
 
 -- what the words of a command mean that is carried out
 abbrev pub meaning_by : Task → Meaning

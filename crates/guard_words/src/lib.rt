@@ -8,5 +8,5 @@ mod settings;
 mod tasks;
 mod words;
 
-pub use tasks::{LinkCommand, RunCommand, Task};
+pub use tasks::{LinkCommand, RunCommand, Skipped, Task};
 pub use words::{Command, command_of};

@@ -8,9 +8,9 @@ use thumb_table::Placement;
 pub enum Task<'a> {
     /// `harden` with one pair of files.
     Harden { input: &'a str, output: &'a str },
-    /// `link` with one input.
+    /// `link`.
     Link(LinkCommand<'a>),
-    /// `run` with one input and the steps that are skipped.
+    /// `run`.
     Run(RunCommand<'a>),
     /// `list`.
     List { input: &'a str },
@@ -21,7 +21,7 @@ pub enum Task<'a> {
 pub struct LinkCommand<'a> {
     pub at: Placement,
     pub output: &'a str,
-    pub input: &'a str,
+    pub inputs: &'a [String],
 }
 
 /// What is run, and how: from the function `entry`, with `argument` in r0, for at most `steps` steps.
@@ -31,6 +31,15 @@ pub struct RunCommand<'a> {
     pub entry: &'a str,
     pub argument: Option<u32>,
     pub steps: u64,
-    pub plan: Plan,
-    pub input: &'a str,
+    pub skipped: Skipped,
+    pub inputs: &'a [String],
+}
+
+/// Which steps a run skips.
+#[derive(Debug, Drop)]
+pub enum Skipped {
+    /// Those of a plan.
+    Listed(Plan),
+    /// Those that are drawn from a seed.
+    Drawn(u32),
 }

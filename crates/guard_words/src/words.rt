@@ -1,13 +1,14 @@
 //! Reads the words of a command line.
 
-ghost use Rattle.std.specs.Prelude.{◌↔◌, ◌∷◌, map, codes, IsTrue, All, string_bytes, length, ◌*◌, ◌≤◌, ◌≡◌, ℕ, List};
+ghost use Rattle.std.specs.Prelude.{◌↔◌, ◌∷◌, map, codes, IsTrue, All, string_bytes, length, ◌*◌, ◌≤◌, ◌≡◌, ℕ, List, MatchOption};
 ghost use Rattle.guard_words.specs.Words.{Pair, IsHarden};
-ghost use Rattle.guard_words.specs.Commands.{AreInputs, IsHeadedBy, IsUnderstoodAs};
+ghost use Rattle.guard_words.specs.Arranged.{IsListed, AreSkippedBy};
+ghost use Rattle.guard_words.specs.Commands.{IsHeadedBy, IsUnderstoodAs};
 
 use crate::file_word::file_word;
 use crate::options::{are_file_names, arrange};
 use crate::settings::{Schedule, is_placing, placement_of, said_of, schedule_of};
-use crate::tasks::{LinkCommand, RunCommand, Task};
+use crate::tasks::{LinkCommand, RunCommand, Skipped, Task};
 use clap::error::ErrorKind;
 use skip_machine::Plan;
 use std::alloc::Global;
@@ -17,7 +18,7 @@ use std::alloc::Global;
 pub enum Command<'a> {
     /// No command.
     Unknown,
-    /// A command that is not handled yet, since it has several inputs or draws its steps; the first input.
+    /// A command that is not handled yet, `harden` with several pairs; the first input.
     Early { input: &'a str },
     /// A command that is carried out.
     Task(Task<'a>),
@@ -93,15 +94,14 @@ fn link_of<'a>(words: &'a [String]) -> Command<'a>
     let Some((output, inputs)) = read.files.split_first() else {
         return Command::Unknown;
     };
-    match inputs_of(inputs) {
-        Inputs::Unfit => Command::Unknown,
-        Inputs::Several(input) => Command::Early { input },
-        Inputs::One(input) => Command::Task(Task::Link(LinkCommand {
-            at,
-            output: output.as_str(),
-            input,
-        })),
+    if !are_inputs(inputs) {
+        return Command::Unknown;
     }
+    Command::Task(Task::Link(LinkCommand {
+        at,
+        output: output.as_str(),
+        inputs,
+    }))
 }
 
 /// The command that `run` with these words is.
@@ -117,23 +117,31 @@ fn run_of<'a>(alloc: Global, words: &'a [String]) -> Command<'a>
     let Some(schedule) = schedule_of(read.options.skip, read.options.seed) else {
         return Command::Unknown;
     };
-    match inputs_of(read.files) {
-        Inputs::Unfit => Command::Unknown,
-        Inputs::Several(input) => Command::Early { input },
-        Inputs::One(input) => match schedule {
-            Schedule::Drawn(_) => Command::Early { input },
-            Schedule::Listed(list) => match Plan::read(alloc, list, 2) {
-                Ok(plan) => Command::Task(Task::Run(RunCommand {
-                    at: said.at,
-                    entry: said.entry,
-                    argument: said.argument,
-                    steps: said.steps,
-                    plan,
-                    input,
-                })),
-                // The list is a plan, so that only memory was wanting.
-                Err(_) => Command::NoMemory,
-            },
+    if !are_inputs(read.files) {
+        return Command::Unknown;
+    }
+    let Some(skipped) = skipped_by(alloc, schedule) else {
+        return Command::NoMemory;
+    };
+    Command::Task(Task::Run(RunCommand {
+        at: said.at,
+        entry: said.entry,
+        argument: said.argument,
+        steps: said.steps,
+        skipped,
+        inputs: read.files,
+    }))
+}
+
+/// The steps that a schedule skips, unless memory is wanting for its plan.
+fn skipped_by(alloc: Global, schedule: Schedule<'_>) -> Option<Skipped>
+    ensures { MatchOption result (IsListed schedule.entry) (AreSkippedBy schedule.entry) }
+{
+    match schedule {
+        Schedule::Drawn(seed) => Some(Skipped::Drawn(seed)),
+        Schedule::Listed(list) => match Plan::read(alloc, list, 2) {
+            Ok(plan) => Some(Skipped::Listed(plan)),
+            Err(_) => None,
         },
     }
 }
@@ -156,26 +164,9 @@ fn list_of<'a>(alloc: Global, words: &'a [String]) -> Command<'a>
     }
 }
 
-/// The input of a command that has one, or the first of several.
-#[derive(Clone, Copy, Debug)]
-enum Inputs<'a> {
-    Unfit,
-    One(&'a str),
-    Several(&'a str),
-}
-
-/// What one to sixteen inputs are.
-fn inputs_of<'a>(files: &'a [String]) -> Inputs<'a>
-    ensures { AreInputs (map string_bytes files.now) result }
+/// Whether these are one to sixteen inputs.
+fn are_inputs(files: &[String]) -> bool
+    ensures { IsTrue result ↔ ((1 ≤ length files.now) × (length files.now ≤ 16)) }
 {
-    let Some((input, more)) = files.split_first() else {
-        return Inputs::Unfit;
-    };
-    if more.is_empty() {
-        Inputs::One(input.as_str())
-    } else if more.len() < 16 {
-        Inputs::Several(input.as_str())
-    } else {
-        Inputs::Unfit
-    }
+    !files.is_empty() && files.len() <= 16
 }

@@ -6,6 +6,8 @@ mod flow_refusals;
 #[cfg(test)]
 mod flows;
 #[cfg(test)]
+mod generated;
+#[cfg(test)]
 mod linked;
 #[cfg(test)]
 mod links;

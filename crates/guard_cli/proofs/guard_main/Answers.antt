@@ -10,7 +10,7 @@ use Rattle.guard_cli.proofs.Carried.{untouched_here}
 use Rattle.guard_cli.proofs.EarlyWords.{early_ends, early_means, turned_not_misused, wanting_ends, wanting_means}
 use Rattle.guard_cli.proofs.Lawful.{work_is_lawful}
 use Rattle.guard_words.proofs.Meanings.{meant}
-use Rattle.guard_cli.proofs.CarriedTasks.{sound_by, input_there, not_misused}
+use Rattle.guard_cli.proofs.CarriedTasks.{sound_by, few_by, inputs_there, not_misused}
 use Rattle.guard_cli.proofs.guard_main.Goals as goal
 
 pub returns-in-Unknown-clause-usage : goal.returns-in-Unknown-clause-usage
@@ -60,8 +60,11 @@ returns-in-Early-clause-completes g c = λ m loaded means told has accepts calm.
     (early_ends here here (screen c.args.out.now) (screen c.turn_away.new.out) c.turn_away.result (map string_bytes c.args.words.now) input m c.in-Early.ensures
     (record { untouched = untouched_here here; loads = refl; turned = rw c.at_start.ensures at c.turn_away.ensures.ending }) means)
 
-pub carry_out-requires : goal.carry_out-requires
-carry_out-requires g c = sound_by (map string_bytes c.args.words.now) c.in-Task.task c.in-Task.ensures
+pub carry_out-requires-clause-sound : goal.carry_out-requires-clause-sound
+carry_out-requires-clause-sound g c = sound_by (map string_bytes c.args.words.now) c.in-Task.task c.in-Task.ensures
+
+pub carry_out-requires-clause-inputs : goal.carry_out-requires-clause-inputs
+carry_out-requires-clause-inputs g c = few_by (map string_bytes c.args.words.now) c.in-Task.task c.in-Task.ensures
 
 pub returns-in-Task-clause-usage : goal.returns-in-Task-clause-usage
 returns-in-Task-clause-usage g c =
@@ -96,7 +99,7 @@ returns-in-Task-clause-completes g c = λ m loaded means told has accepts calm.
 
 pub returns-in-Task-clause-calm : goal.returns-in-Task-clause-calm
 returns-in-Task-clause-calm g c = λ steady steady_out present.
-    c.carry_out.ensures.calm steady steady_out (input_there c.in-Task.task (λ name. IsSome (g.S.Shelf.file c.args.shelf.now name)) (present (meaning_by c.in-Task.task) c.in-Task.ensures))
+    c.carry_out.ensures.calm steady steady_out (inputs_there c.in-Task.task (λ name. IsSome (g.S.Shelf.file c.args.shelf.now name)) (present (meaning_by c.in-Task.task) c.in-Task.ensures))
 
 pub returns-in-NoMemory-clause-usage : goal.returns-in-NoMemory-clause-usage
 returns-in-NoMemory-clause-usage g c = (λ e m h. absurd (cc), λ none. let e = wanting_means (map string_bytes c.args.words.now) c.in-NoMemory.ensures in absurd (none e.0 e.1))

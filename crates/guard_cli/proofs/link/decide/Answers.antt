@@ -1,6 +1,5 @@
-use Rattle.std.proofs.Common.{[], ◌∷◌}
 use Rattle.guard_cli.proofs.SameImages.{code_in_room}
 use Rattle.guard_cli.proofs.link.decide.Goals as goal
 
 pub bytes-requires : goal.bytes-requires
-bytes-requires c = code_in_room (c.in_ok-object.object ∷ []) c.args.command.now.at c.in_ok-image.image c.in_ok-image.ensures.image
+bytes-requires c = code_in_room c.deref-2.result.now c.args.command.now.at c.in_ok-image.image c.in_ok-image.ensures.image

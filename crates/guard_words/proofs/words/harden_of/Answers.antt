@@ -1,4 +1,4 @@
-use Rattle.std.proofs.Common.{◌∷◌, map, codes, string_bytes, refl, sym, ◌∙◌, inl, arith}
+use Rattle.std.proofs.Common.{◌∷◌, map, codes, string_bytes, refl, sym, ◌∙◌, arith}
 use Rattle.std.proofs.lemmas.List.{length-map}
 use Rattle.guard_words.proofs.Pairs.{command_length, several_of, one_of, word_read}
 use Rattle.guard_words.proofs.words.harden_of.Goals as goal
@@ -19,7 +19,7 @@ returns-then-names-gt2 c =
     let known = c.if-not-are_pairs.ensures.0 refl in
     let read = word_read string_bytes names 0 c.index-names-0.result (omega arith) c.index-names-0.is in
     let s = several_of (codes "harden" ∷ map string_bytes names) (string_bytes c.index-names-0.result) known (omega (arith, length-map names string_bytes)) read in
-    inl (s.0, s.1, s.2, s.3, sym s.4 ∙ sym c.as_str.ensures.value)
+    (s.0, s.1, s.2, s.3, sym s.4 ∙ sym c.as_str.ensures.value)
 
 pub returns : goal.returns
 returns c =

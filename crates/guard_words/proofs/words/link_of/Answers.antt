@@ -1,4 +1,4 @@
-use Rattle.std.proofs.Common.{◌≡◌, ◌≤◌, [], ◌∷◌, map, length, string_bytes, refl, inl, inr, sym, ap, ◌∙◌, subst, arith}
+use Rattle.std.proofs.Common.{◌≡◌, ◌∷◌, map, length, string_bytes, refl, sym, ap, ◌∙◌, arith}
 use Rattle.std.proofs.lemmas.Bool.{false≢true}
 use Rattle.std.proofs.lemmas.List.{length-map}
 use Rattle.guard_words.specs.Words.{LinkWords}
@@ -27,34 +27,29 @@ returns-in_default-split_first c =
     let none = c.in_default-split_first.ensures.cases in
     absurd (omega (arith, ap length said.2, length-map c.in-Some.read.files.now string_bytes)))
 
-pub returns-in-Unfit : goal.returns-in-Unfit
-returns-in-Unfit c =
+pub returns-then-not-are_inputs : goal.returns-then-not-are_inputs
+returns-then-not-are_inputs c =
     let read = c.in-Some.ensures in
     only_link (map string_bytes c.args.words.now) (λ l h.
     let said = link_is_read (map string_bytes c.args.words.now) read.0 (map string_bytes c.in-Some.read.files.now) c.in-Some.read.options read.1 read.2 l h in
     let files = ap (λ ws. map string_bytes ws) c.in-Some-split_first.ensures.cases.0 in
     let e : l.output ∷ l.inputs ≡ string_bytes c.in-Some-split_first.output.now ∷ map string_bytes c.in-Some-split_first.inputs.now = sym said.2 ∙ files in
     let same : l.inputs ≡ map string_bytes c.in-Some-split_first.inputs.now = cc in
-    c.in-Unfit.ensures (subst (λ fs. 1 ≤ length fs) same h.some) (subst (λ fs. length fs ≤ 16) same h.few))
+    let count = ap length same ∙ length-map c.in-Some-split_first.inputs.now string_bytes in
+    let some = h.some in
+    let few = h.few in
+    false≢true (c.if-not-are_inputs.ensures.1 (omega arith, omega arith)))
 
-pub returns-in-Several : goal.returns-in-Several
-returns-in-Several c =
-    let read = c.in-Some.ensures in
-    let files = ap (λ ws. map string_bytes ws) c.in-Some-split_first.ensures.cases.0 in
-    let inputs = map string_bytes c.in-Some-split_first.inputs.now in
-    let l : LinkWords = record { at = c.in-Some-placement_of.at; output = string_bytes c.in-Some-split_first.output.now; inputs = inputs } in
-    let several = c.in-Several.ensures in
-    let low = several.1 in
-    let h = is_link (map string_bytes c.args.words.now) read.0 (map string_bytes c.in-Some.read.files.now) c.in-Some.read.options l read.1 read.2
-    (c.if-not-is_placing.ensures.0 refl) c.in-Some-placement_of.ensures files (omega arith) several.2 in
-    inr (inl (l, h, several.0, several.1))
-
-pub returns-in-One : goal.returns-in-One
-returns-in-One c =
+pub returns : goal.returns
+returns c =
     let read = c.in-Some.ensures in
     let files = ap (λ ws. map string_bytes ws) c.in-Some-split_first.ensures.cases.0 in
     let output = c.as_str.ensures.value in
-    let l : LinkWords = record { at = c.in-Some-placement_of.at; output = c.as_str.result.now; inputs = c.in-One.input.now ∷ [] } in
-    let e : map string_bytes c.in-Some.read.files.now ≡ l.output ∷ l.inputs = files ∙ ap (λ ws. string_bytes c.in-Some-split_first.output.now ∷ ws) c.in-One.ensures ∙ ap (λ w. w ∷ l.inputs) (sym output) in
+    let l : LinkWords = record { at = c.in-Some-placement_of.at; output = c.as_str.result.now; inputs = map string_bytes c.in-Some-split_first.inputs.now } in
+    let e : map string_bytes c.in-Some.read.files.now ≡ l.output ∷ l.inputs = files ∙ ap (λ w. w ∷ l.inputs) (sym output) in
+    let count = length-map c.in-Some-split_first.inputs.now string_bytes in
+    let few = c.if-not-are_inputs.ensures.0 refl in
+    let low = few.0 in
+    let high = few.1 in
     is_link (map string_bytes c.args.words.now) read.0 (map string_bytes c.in-Some.read.files.now) c.in-Some.read.options l read.1 read.2
     (c.if-not-is_placing.ensures.0 refl) c.in-Some-placement_of.ensures e (omega arith) (omega arith)

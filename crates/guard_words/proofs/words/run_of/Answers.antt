@@ -1,9 +1,11 @@
-use Rattle.std.proofs.Common.{◌≤◌, map, length, string_bytes, refl, inl, inr, sym, ap, subst, arith}
-use Rattle.guard_words.specs.Words.{listed, drawn}
-use Rattle.guard_words.specs.Arranged.{value_in, IsSchedule}
+use Rattle.std.proofs.Common.{map, length, string_bytes, refl, inl, sym, ap, ◌∙◌, arith}
+use Rattle.std.proofs.lemmas.Bool.{false≢true}
+use Rattle.std.proofs.lemmas.List.{length-map}
+use Rattle.guard_words.specs.Words.{listed}
+use Rattle.guard_words.specs.Arranged.{value_in}
+use Rattle.guard_words.specs.Tasks.{skips_by}
 use Rattle.guard_words.specs.declared.options.OptionName.TheVariants as option
-use Rattle.guard_words.specs.Commands.{IsFirst}
-use Rattle.guard_words.proofs.OneMeaning.{only_run, run_is_read, is_run, skips_read}
+use Rattle.guard_words.proofs.OneMeaning.{only_run, run_is_read, is_run, listed_read, skips_read}
 use Rattle.guard_words.proofs.words.run_of.Goals as goal
 
 pub returns-in_default-said_of : goal.returns-in_default-said_of
@@ -20,42 +22,37 @@ returns-in_default-schedule_of c =
     let said = run_is_read (map string_bytes c.args.words.now) read.0 (map string_bytes c.in-Some.read.files.now) c.in-Some.read.options read.1 read.2 r h in
     c.in_default-schedule_of.ensures r.skips said.0.skips)
 
-pub returns-in-Unfit : goal.returns-in-Unfit
-returns-in-Unfit c =
+pub returns-then-not-are_inputs : goal.returns-then-not-are_inputs
+returns-then-not-are_inputs c =
     let read = c.in-Some.ensures in
     only_run (map string_bytes c.args.words.now) (λ r h.
     let said = run_is_read (map string_bytes c.args.words.now) read.0 (map string_bytes c.in-Some.read.files.now) c.in-Some.read.options read.1 read.2 r h in
-    c.in-Unfit.ensures (subst (λ fs. 1 ≤ length fs) (sym said.1) h.some) (subst (λ fs. length fs ≤ 16) (sym said.1) h.few))
+    let count = sym (ap length said.1) ∙ length-map c.in-Some.read.files.now string_bytes in
+    let some = h.some in
+    let few = h.few in
+    false≢true (c.if-not-are_inputs.ensures.1 (omega arith, omega arith)))
 
-pub returns-in-Several : goal.returns-in-Several
-returns-in-Several c =
+pub returns-in_default-skipped_by : goal.returns-in_default-skipped_by
+returns-in_default-skipped_by c =
     let read = c.in-Some.ensures in
     let o = c.in-Some.read.options in
-    let skips = skips_read (value_in o option.Skip) (value_in o option.Seed) c.in-Some-schedule_of.schedule c.in-Some-schedule_of.ensures in
-    let several = c.in-Several.ensures in
-    let low = several.1 in
-    let h = is_run (map string_bytes c.args.words.now) read.0 (map string_bytes c.in-Some.read.files.now) o c.in-Some-said_of.said skips.0 read.1 read.2
-    c.in-Some-said_of.ensures skips.1 (omega arith) several.2 in
-    inr (inr (_, h, several.0, inl several.1))
+    let few = c.if-not-are_inputs.ensures.0 refl in
+    let low = few.0 in
+    let high = few.1 in
+    let count = length-map c.in-Some.read.files.now string_bytes in
+    let plan = listed_read (value_in o option.Skip) (value_in o option.Seed) c.in-Some-schedule_of.schedule c.in-Some-schedule_of.ensures c.in_default-skipped_by.ensures in
+    let h = is_run (map string_bytes c.args.words.now) read.0 (map string_bytes c.in-Some.read.files.now) o c.in-Some-said_of.said (listed plan.0) read.1 read.2
+    c.in-Some-said_of.ensures plan.1 (omega arith) (omega arith) in
+    inl (_, plan.0, h, refl)
 
-pub returns-in-Drawn : goal.returns-in-Drawn
-returns-in-Drawn c =
+pub returns : goal.returns
+returns c =
     let read = c.in-Some.ensures in
     let o = c.in-Some.read.options in
-    let skips = subst (IsSchedule (value_in o option.Skip) (value_in o option.Seed)) c.in-Drawn.is c.in-Some-schedule_of.ensures in
-    let one = c.in-One.ensures in
-    let count = ap length one in
-    let h = is_run (map string_bytes c.args.words.now) read.0 (map string_bytes c.in-Some.read.files.now) o c.in-Some-said_of.said (drawn c.in-Drawn.field-0) read.1 read.2
-    c.in-Some-said_of.ensures skips (omega arith) (omega arith) in
-    inr (inr (_, h, subst (λ fs. IsFirst fs c.in-One.input.now) (sym one) refl, inr tt))
-
-pub returns-in-Err : goal.returns-in-Err
-returns-in-Err c =
-    let read = c.in-Some.ensures in
-    let o = c.in-Some.read.options in
-    let plan = subst (IsSchedule (value_in o option.Skip) (value_in o option.Seed)) c.in-Listed.is c.in-Some-schedule_of.ensures in
-    let one = c.in-One.ensures in
-    let count = ap length one in
-    let h = is_run (map string_bytes c.args.words.now) read.0 (map string_bytes c.in-Some.read.files.now) o c.in-Some-said_of.said (listed plan.0.0) read.1 read.2
-    c.in-Some-said_of.ensures (plan.1 plan.0.0 plan.0.1) (omega arith) (omega arith) in
-    inl (_, c.in-One.input.now, plan.0.0, h, one, refl)
+    let few = c.if-not-are_inputs.ensures.0 refl in
+    let low = few.0 in
+    let high = few.1 in
+    let count = length-map c.in-Some.read.files.now string_bytes in
+    let skips = skips_read (value_in o option.Skip) (value_in o option.Seed) c.in-Some-schedule_of.schedule c.in-Some-skipped_by.skipped c.in-Some-schedule_of.ensures c.in-Some-skipped_by.ensures in
+    is_run (map string_bytes c.args.words.now) read.0 (map string_bytes c.in-Some.read.files.now) o c.in-Some-said_of.said (skips_by c.in-Some-skipped_by.skipped) read.1 read.2
+    c.in-Some-said_of.ensures skips (omega arith) (omega arith)

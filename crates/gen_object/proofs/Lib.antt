@@ -1,0 +1,6 @@
+mod Examples
+mod Ranges
+mod Names
+mod Lengths
+mod Steps
+mod Sound

@@ -1,0 +1,42 @@
+use Rattle.std.proofs.Common.{◌≤◌, ◌+◌, List, ℕ, [], ◌∷◌, ◌++◌, length, take, sym, ap, subst, arith}
+use Rattle.elf_model.specs.Objects.{ObjectParts}
+use Rattle.elf_model.specs.Files.{StandsFor}
+use Rattle.elf_model.specs.declared.refusals.TheConstants.Limit.{ANY}
+use Rattle.elf_read.specs.Faults.{IsDeniedFor, IsFaultless}
+use Rattle.guard_cli.specs.Inputs.{IsReadAs, AreReadAs, IsFaulty, IsTurnedDown}
+use Rattle.guard_cli.specs.Steps.{contents_of}
+use Rattle.guard_cli.proofs.Accepted.{each_read}
+use Rattle.guard_cli.proofs.Loaded.{contents_next, holds_here, denied, read_more}
+use Rattle.guard_cli.proofs.loading.read_all.Goals as goal
+
+pub read_object-requires : goal.read_object-requires
+read_object-requires c =
+    let short = holds_here c.args.files.now c.loop-k.k c.index-files-k.result (omega arith) c.index-files-k.is (λ (f : List ℕ). length f ≤ ANY.file) c.requires.short in
+    omega (arith, short, ap length c.deref.ensures.value)
+
+pub returns-in-Err-clause-refused : goal.returns-in-Err-clause-refused
+returns-in-Err-clause-refused c =
+    let files = c.args.files.now in
+    let k = c.loop-k.k in
+    let v = c.index-files-k.result in
+    let why = c.in-Err.why in
+    let here : IsDeniedFor v.items ANY why = subst (λ (b : List ℕ). IsDeniedFor b ANY why) c.deref.ensures.value c.in-Err.ensures.refused in
+    let none = each_read ANY (λ f. IsFaultless f ANY) (λ f o h. h.faultless) (contents_of (take k files)) c.loop-k.objects.items c.loop-k.invariant in
+    subst (IsTurnedDown (IsFaulty ANY (contents_of files))) (sym c.deny_in.ensures) (denied files k v (omega arith) c.index-files-k.is ANY why c.requires.short none here)
+
+pub loop-k-preserved : goal.loop-k-preserved
+loop-k-preserved c =
+    let files = c.args.files.now in
+    let k = c.loop-k.k in
+    let v = c.index-files-k.result in
+    let o = c.in-Ok.read.object in
+    let short = holds_here files k v (omega arith) c.index-files-k.is (λ (f : List ℕ). length f ≤ ANY.file) c.requires.short in
+    let one : IsReadAs ANY v.items o = record {
+      short = short;
+      faultless = subst (λ (b : List ℕ). IsFaultless b ANY) c.deref.ensures.value c.in-Ok.ensures.faultless;
+      stands = subst (λ (b : List ℕ). StandsFor b o) c.deref.ensures.value c.in-Ok.ensures.object;
+    } in
+    let next = contents_next files k v (omega arith) c.index-files-k.is in
+    subst (λ (os : List ObjectParts). AreReadAs ANY (contents_of (take (k + 1) files)) os) (sym c.in_ok-push-in-Ok.ensures.items)
+    (subst (λ (fs : List (List ℕ)). AreReadAs ANY fs (c.loop-k.objects.items ++ o ∷ [])) (sym next)
+    (read_more ANY (contents_of (take k files)) c.loop-k.objects.items v.items o c.loop-k.invariant one))
