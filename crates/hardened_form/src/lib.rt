@@ -1,0 +1,2 @@
+//! What a hardened object is, for the places of its units and words.
+#![tactic(auto)]
