@@ -1,0 +1,3 @@
+pub mod ShortLists
+pub mod FirstRowForm
+pub mod CallRowForm
