@@ -1,3 +1,4 @@
 pub mod ShortLists
 pub mod FirstRowForm
 pub mod CallRowForm
+pub mod TargetRowForm

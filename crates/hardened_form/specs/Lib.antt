@@ -12,3 +12,4 @@ pub mod Code
 pub mod HardenedForms
 pub mod FirstRow
 pub mod CallRow
+pub mod TargetRow
