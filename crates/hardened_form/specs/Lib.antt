@@ -13,3 +13,4 @@ pub mod HardenedForms
 pub mod FirstRow
 pub mod CallRow
 pub mod TargetRow
+pub mod OneForm
