@@ -1,5 +1,5 @@
 -- The places that a layout gives to units and words.
-use Rattle.std.specs.Prelude.{ℕ, ◌+◌, List, map, unwrap_or}
+use Rattle.std.specs.Prelude.{◌+◌, map, unwrap_or}
 use Rattle.seq_core.specs.Places.{PlacedParts, LayoutParts}
 use Rattle.hardened_form.specs.Places.{UnitPlace, Places}
 

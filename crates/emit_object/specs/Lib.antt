@@ -1,3 +1,5 @@
 pub mod LaidPlaces
 pub mod Readable
 pub mod TurnedPlaces
+pub mod Lasting
+pub mod TargetPlaces

@@ -1,4 +1,6 @@
 //! The hardened object: tables and bytes for a layout.
 #![tactic(auto)]
 
+mod lasting;
+mod targets;
 mod turns;

@@ -71,9 +71,7 @@ fn jump_target(o: &Object, r: &Reloc, s: &Symbol) -> u32
     requires { IsReadable o.now r.now }
     ensures { result ≡ target_by o.now r.now s.now }
 {
-    place_of(o, s)
-        .wrapping_add(number_at(o, r))
-        .wrapping_add(4)
+    place_of(o, s).wrapping_add(number_at(o, r)).wrapping_add(4)
 }
 
 /// The offset that a relocation leads to in its symbol's section.

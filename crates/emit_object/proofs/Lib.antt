@@ -1,0 +1,2 @@
+pub mod FlowGives
+pub mod TargetFacts
