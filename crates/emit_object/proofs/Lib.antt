@@ -1,2 +1,5 @@
 pub mod FlowGives
 pub mod TargetFacts
+pub mod RowFacts
+pub mod RowTurns
+pub mod RowPoints

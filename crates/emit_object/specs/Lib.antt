@@ -3,3 +3,4 @@ pub mod Readable
 pub mod TurnedPlaces
 pub mod Lasting
 pub mod TargetPlaces
+pub mod RowLists

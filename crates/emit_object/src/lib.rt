@@ -2,5 +2,6 @@
 #![tactic(auto)]
 
 mod lasting;
+mod rows;
 mod targets;
 mod turns;
