@@ -3,3 +3,4 @@ pub mod TargetFacts
 pub mod RowFacts
 pub mod RowTurns
 pub mod RowPoints
+pub mod WordFacts

@@ -4,3 +4,4 @@ pub mod TurnedPlaces
 pub mod Lasting
 pub mod TargetPlaces
 pub mod RowLists
+pub mod WordPlaces

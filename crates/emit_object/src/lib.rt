@@ -5,3 +5,4 @@ mod lasting;
 mod rows;
 mod targets;
 mod turns;
+mod word_places;
