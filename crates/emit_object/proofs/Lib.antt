@@ -4,3 +4,4 @@ pub mod RowFacts
 pub mod RowTurns
 pub mod RowPoints
 pub mod WordFacts
+pub mod MarkFacts

@@ -5,3 +5,4 @@ pub mod Lasting
 pub mod TargetPlaces
 pub mod RowLists
 pub mod WordPlaces
+pub mod Marks

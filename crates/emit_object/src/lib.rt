@@ -2,6 +2,7 @@
 #![tactic(auto)]
 
 mod lasting;
+mod marks;
 mod rows;
 mod targets;
 mod turns;
