@@ -5,3 +5,4 @@ pub mod RowTurns
 pub mod RowPoints
 pub mod WordFacts
 pub mod MarkFacts
+pub mod MappingFacts

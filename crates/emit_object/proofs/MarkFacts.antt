@@ -1,18 +1,19 @@
 -- Listed sets, and what the lists of marks hold.
-use Rattle.std.proofs.Common.{◌≡◌, ◌↔◌, ◌<◌, ◌≤◌, ℕ, zero, suc, ◌+◌, ◌-◌, Bool, true, false, cond, List, [], ◌∷◌, ◌++◌, length, map, refl, sym, ap, ◌∙◌, subst, inl, inr, ◌⊎◌, arith, Option, Some, None}
-use Rattle.std.specs.Prelude.{Contains, slice_get, slice_index, ◌==◌, ◌||◌}
-use Rattle.std.specs.List.{list_any}
-use Rattle.std.specs.BTreeSet.{BTreeSet, contains}
-use Rattle.std.proofs.lemmas.Bool.{cases_Bool, true≢false, or_cases, eqb-true, eq-eqb, both_ways}
+use Rattle.std.proofs.Common.{◌≡◌, ◌↔◌, ◌<◌, ℕ, zero, suc, ◌+◌, Bool, true, false, cond, List, [], ◌∷◌, ◌++◌, length, map, drop, get_or, append_assoc, add-one, refl, sym, ap, ◌∙◌, subst, inl, inr, ◌⊎◌, arith, Some}
+use Rattle.std.specs.Prelude.{Contains, slice_get}
+use Rattle.std.specs.BTreeSet.{BTreeSet}
+use Rattle.std.proofs.lemmas.Bool.{true≢false}
 use Rattle.std.proofs.lemmas.List.Elements.{Contains-append_left, Contains-append_right, Contains-append_cases}
 use Rattle.std.proofs.lemmas.Map.Views.{btree_set_contains_iff}
 use Rattle.std.proofs.lemmas.Option.{none-some, same_Some}
+use Rattle.std.proofs.Math.Seq.{drop-cons}
 use Rattle.elf_model.specs.declared.objects.Section.{Section}
+use Rattle.elf_model.specs.declared.objects.Symbol.{Symbol}
 use Rattle.elf_model.proofs.Elements.{contains_cases, contains_here, contains_later, contains_none}
-use Rattle.code_ranges.specs.Spans.{place_cmp}
 use Rattle.code_ranges.proofs.PlaceOrder.{place_total, place_exact}
+use Rattle.hardened_form.specs.MappingSymbols.{mapping_symbol}
 use Rattle.emit_object.specs.WordPlaces.{IsSetOf}
-use Rattle.emit_object.specs.Marks.{has, follows, data_mark, code_mark, word_marks, is_first, first_mark, first_marks}
+use Rattle.emit_object.specs.Marks.{has, follows, data_mark, code_mark, word_marks, is_first, first_mark, first_marks, mapping_at}
 
 -- the places of a set of a list
 pub listed_set : (s : BTreeSet (ℕ × ℕ)) (list all places : List (ℕ × ℕ)) → IsSetOf s list → list ≡ all → places ≡ s.keys → (p : ℕ × ℕ) → Contains places p ↔ Contains all p
@@ -107,3 +108,12 @@ module _ (words : BTreeSet (ℕ × ℕ)) (sizes : List ℕ) where
       let n : (j + 1) + k ≡ j + suc k = omega arith in
       Contains-append_right (first_mark words sizes j z) (first_marks words sizes (j + 1) rest) (j + suc k, 0)
       (subst (λ (i : ℕ). Contains (first_marks words sizes (j + 1) rest) (i, 0)) n (first_in (j + 1) rest k s at (ap (λ (i : ℕ). is_first words sizes i s) n ∙ f)))
+
+-- one symbol more
+pub symbols_more : (words : BTreeSet (ℕ × ℕ)) (places : List (ℕ × ℕ)) (i : ℕ) (d : ℕ × ℕ) (now new all : List Symbol) (s : Symbol) → i < length places → now ++ map mapping_symbol (map (mapping_at words) (drop i places)) ≡ all
+    → s ≡ mapping_symbol (mapping_at words (get_or places i d)) → new ≡ now ++ s ∷ [] → new ++ map mapping_symbol (map (mapping_at words) (drop (i + 1) places)) ≡ all
+symbols_more words places i d now new all s low before is_s is =
+    let cut : drop i places ≡ get_or places i d ∷ drop (i + 1) places = drop-cons places i d low ∙ ap (λ (n : ℕ). get_or places i d ∷ drop n places) (sym (add-one i)) in
+    let rest : List Symbol = map mapping_symbol (map (mapping_at words) (drop (i + 1) places)) in
+    ap (λ (l : List Symbol). l ++ rest) is ∙ append_assoc now (s ∷ []) rest ∙ ap (λ (z : Symbol). now ++ z ∷ rest) is_s
+    ∙ ap (λ (l : List (ℕ × ℕ)). now ++ map mapping_symbol (map (mapping_at words) l)) (sym cut) ∙ before

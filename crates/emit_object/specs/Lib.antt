@@ -6,3 +6,4 @@ pub mod TargetPlaces
 pub mod RowLists
 pub mod WordPlaces
 pub mod Marks
+pub mod Laid

@@ -2,6 +2,7 @@
 #![tactic(auto)]
 
 mod lasting;
+mod mapping;
 mod marks;
 mod rows;
 mod targets;

@@ -75,7 +75,10 @@ fn target_places(
 }
 
 /// The places of a set in order.
-pub(crate) fn listed(alloc: Global, places: &BTreeSet<(u32, u32)>) -> Result<Vec<(u32, u32)>, AllocError>
+pub(crate) fn listed(
+    alloc: Global,
+    places: &BTreeSet<(u32, u32)>,
+) -> Result<Vec<(u32, u32)>, AllocError>
     ensures items { IfOk result (λ list. list.items ≡ places.now.keys) }
     ensures ordered { IsOrdered place_cmp places.now }
 {

@@ -1,4 +1,4 @@
-use Rattle.std.proofs.Common.{◌≡◌, ◌∙◌, ◌++◌, ap, List, ℕ}
+use Rattle.std.proofs.Common.{◌∙◌, ◌++◌, ap, List, ℕ}
 use Rattle.emit_object.specs.Marks.{first_marks}
 use Rattle.emit_object.proofs.MarkFacts.{listed_set}
 use Rattle.emit_object.proofs.marks.marks.Goals as goal
