@@ -6,3 +6,4 @@ pub mod RowPoints
 pub mod WordFacts
 pub mod MarkFacts
 pub mod MappingFacts
+pub mod RowBytes

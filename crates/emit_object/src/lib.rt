@@ -2,6 +2,7 @@
 #![tactic(auto)]
 
 mod lasting;
+mod map_section;
 mod mapping;
 mod marks;
 mod rows;
