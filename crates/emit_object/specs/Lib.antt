@@ -7,3 +7,4 @@ pub mod RowLists
 pub mod WordPlaces
 pub mod Marks
 pub mod Laid
+pub mod TargetSymbols

@@ -6,6 +6,7 @@ mod map_section;
 mod mapping;
 mod marks;
 mod rows;
+mod target_symbols;
 mod targets;
 mod turns;
 mod word_places;
