@@ -1,0 +1,12 @@
+//! The hardened object: tables and bytes for a layout.
+#![tactic(auto)]
+
+mod lasting;
+mod map_section;
+mod mapping;
+mod marks;
+mod rows;
+mod target_symbols;
+mod targets;
+mod turns;
+mod word_places;
