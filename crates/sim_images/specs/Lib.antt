@@ -1,0 +1,4 @@
+pub mod ImageLaws
+pub mod CodeLaws
+pub mod Counterparts
+pub mod PairLaws
