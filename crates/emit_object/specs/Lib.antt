@@ -1,0 +1,3 @@
+pub mod LaidPlaces
+pub mod Readable
+pub mod TurnedPlaces
