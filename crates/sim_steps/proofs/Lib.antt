@@ -1,0 +1,14 @@
+pub mod Following
+pub mod Words
+pub mod Zero
+pub mod Memories
+pub mod Pairs
+pub mod Follow
+pub mod Ordinary
+pub mod Places
+pub mod Members
+pub mod Calm
+pub mod Making
+pub mod Jumping
+pub mod Straight
+pub mod ExampleMet
