@@ -8,3 +8,5 @@ pub mod FirstFlow
 pub mod FirstAccepted
 pub mod FirstPaired
 pub mod CopyRefused
+pub mod Bounded
+pub mod Spared

@@ -4,6 +4,7 @@ pub mod Standing
 pub mod Doing
 pub mod Pairs
 pub mod Charted
+pub mod Spared
 pub mod FirstRow
 pub mod AddsRow
 pub mod EmptyLoop

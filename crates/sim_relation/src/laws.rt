@@ -4,6 +4,7 @@ ghost use Rattle.sim_relation.specs.AddsRow.{AddsIsDone};
 ghost use Rattle.sim_relation.specs.Charted.{PairsWork};
 ghost use Rattle.sim_relation.specs.EmptyLoop.{EmptyLoopsWork};
 ghost use Rattle.sim_relation.specs.FirstRow.{CopyIsRefused, FirstRowIsPaired};
+ghost use Rattle.sim_relation.specs.Spared.{PairsSpare};
 
 /// MOVS r0, #5 and BX LR, each twice, are paired with the two.
 pub fn first_row_is_paired()
@@ -28,4 +29,9 @@ pub fn empty_loops_work()
 /// In a code where a point's unit stands, linked, it does the point's instruction.
 pub fn pairs_work()
     ensures { PairsWork }
+{}
+
+/// What a unit loses is dead behind its point, and it keeps sp, and lr where the instruction names it.
+pub fn pairs_spare()
+    ensures { PairsSpare }
 {}
