@@ -246,4 +246,4 @@ no_live_fault _ _ _ (at_return p q k x e call next h) = ⊎_elim
     (at_two first last x p e)
 
 pub accepted : Accepted plain flow 4
-accepted = record { flow = is_flow; live = no_live_fault }
+accepted = record { flow = is_flow; live = no_live_fault; results = λ p q k x e call next above below. absurd (omega (arith, above, below)) }

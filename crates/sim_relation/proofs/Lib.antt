@@ -9,4 +9,6 @@ pub mod FirstAccepted
 pub mod FirstPaired
 pub mod CopyRefused
 pub mod Bounded
+pub mod FlowPoints
 pub mod Spared
+pub mod Living

@@ -1,27 +1,19 @@
 -- What a unit of a pair may lose is dead behind its point.
-use Rattle.std.proofs.Common.{◌≡◌, ℕ, suc, ◌<◌, ◌≤◌, Bool, true, false, List, [], ◌∷◌, Option, Some, None, Ok, Err, refl, sym, ap, ◌∙◌, subst, arith, inl, inr}
+use Rattle.std.proofs.Common.{◌≡◌, ℕ, suc, ◌<◌, ◌≤◌, Bool, true, false, List, [], ◌∷◌, Some, refl, sym, ap, ◌∙◌, subst, arith, inl, inr}
 use Rattle.std.specs.Prelude.{◌==◌, ◌&&◌, ◌||◌, if◌then◌else◌, slice_get, Contains}
 use Rattle.std.proofs.lemmas.Bool.Decides.{nat_tests}
 use Rattle.std.proofs.lemmas.Bool.{both_ways, eqb-true, or_cases, and_parts, false_from_ne_true}
-use Rattle.std.proofs.lemmas.Option.{slice_get_within, slice_get_cases}
-use Rattle.elf_model.specs.Fields.{half_at}
 use Rattle.elf_model.specs.Objects.{ObjectParts}
-use Rattle.elf_model.specs.Ranges.{is_whole}
 use Rattle.thumb_instr.specs.declared.instructions.Instr.{Instr}
 use Rattle.thumb_instr.specs.declared.instructions.Instr.TheVariants as instr
-use Rattle.thumb_instr.specs.declared.refusals.ItPlace.{ItPlace}
-use Rattle.thumb_instr.specs.declared.refusals.BadInstr.TheVariants.{Unknown}
-use Rattle.thumb_instr.specs.Blocks.{place_in_block}
-use Rattle.thumb_instr.specs.Rows.{Answer, decode, decode_given, is_wide}
 use Rattle.thumb_instr.specs.Sets.{is_flag, reads_of, writes_of, sets_flags_of}
 use Rattle.thumb_table.specs.Schedules.{is_in}
-use Rattle.reloc_places.specs.Starts.{bytes_of, second_half, decoded_at}
 use Rattle.flow_recover.specs.declared.flows.Point.{Point}
 use Rattle.flow_recover.specs.declared.flows.Exit.{Exit}
 use Rattle.flow_recover.specs.declared.flows.Exit.TheVariants as exits
 use Rattle.flow_recover.specs.Aims.{is_branch}
 use Rattle.flow_recover.specs.Flows.{FlowParts}
-use Rattle.flow_recover.specs.WholeFlows.{IsExit, plain, near, far, plain_exit, IsPoint, IsFlow}
+use Rattle.flow_recover.specs.WholeFlows.{IsExit, plain, near, far, plain_exit, IsFlow}
 use Rattle.liveness.specs.Paths.{leaves, IsLiveAfter, at_boundary, before_next}
 use Rattle.seq_core.specs.Classes.{has_pc, adds_long_product}
 use Rattle.seq_core.specs.Accepted.{loads_pc_by_pop}
@@ -32,6 +24,7 @@ use Rattle.sim_relation.specs.Accepted.{boundaries}
 use Rattle.sim_relation.specs.Sequences.{Sequence}
 use Rattle.sim_relation.specs.Doing.{loses, IsSpare}
 use Rattle.sim_relation.specs.Spared.{way_by, PairsSpare}
+use Rattle.sim_relation.proofs.FlowPoints.{has_node, the_point, decodes}
 use Rattle.sim_relation.proofs.Bounded.{bounded, no_link_at_return, leaves_alike}
 
 -- why a member is lost
@@ -71,46 +64,18 @@ unfolding reads_of writes_of sets_flags_of
 no_link (instr.Multi i) e p = grind (arith, nat_tests)
 no_link i e p = absurd cc
 
-given_is : (place : ItPlace) (first : ℕ) (second : Option ℕ) (i : Instr) → decode_given place first second ≡ Ok i → (k : ℕ) × (decode place first k ≡ Ok i)
-given_is place first (Some k) i e = (k, e)
-given_is place first None i e = (0, cut (is_wide first) e)
-  where
-    cut : (b : Bool) → (if b then Err Unknown else decode place first 0) ≡ Ok i → decode place first 0 ≡ Ok i
-    cut true e = absurd cc
-    cut false e = e
-
 -- what a point's flow gives
 module _ (o : ObjectParts) (f : FlowParts) (flow : IsFlow o f) (k : ℕ) (x : Point) (there : slice_get f.points k ≡ Some x) where
-  has_node : (n : _) × (slice_get flow.nodes k ≡ Some n)
-  has_node =
-      let low = slice_get_within f.points k x there in
-      elim (slice_get_cases flow.nodes k).1 [
-        | inl (n, l, e, r) ↦ (n, e)
-        | inr (past, e) ↦ absurd (omega (arith, low, past, flow.count))
-      ]
-
-  the_point : IsPoint o flow.nodes f.words has_node.0 x
-  the_point = flow.points k has_node.0 x has_node.1 there
-
   returns : has_pc x.instr ≡ true → x.exit ≡ exits.Return
-  returns pc = by_exit the_point.exit
+  returns pc = by_exit (the_point o f flow k x there).exit
     where
-      by_exit : IsExit o flow.nodes has_node.0 x.instr x.exit → x.exit ≡ exits.Return
+      by_exit : IsExit o flow.nodes (has_node o f flow k x there).0 x.instr x.exit → x.exit ≡ exits.Return
       by_exit (plain b e) = e ∙ (pc_returns x.instr pc).1
       by_exit (near t q b a n e) = absurd (both_ways (is_branch x.instr) (pc_returns x.instr pc).0 b)
       by_exit (far a b m n e) = absurd (both_ways (is_branch x.instr) (pc_returns x.instr pc).0 b)
 
   pops : loads_pc_by_pop x.instr ≡ true
-  pops =
-      let found = the_point.instr in
-      let n = has_node.0 in
-      let at = whole (is_whole (bytes_of o n.section) found.end n.offset) (decoded_at (bytes_of o n.section) n.offset n.it) x.instr found.is in
-      let d = given_is (place_in_block n.it) (half_at (bytes_of o n.section) n.offset) (second_half (bytes_of o n.section) n.offset) x.instr at in
-      (decodes_use_stack (place_in_block n.it) (half_at (bytes_of o n.section) n.offset) d.0 x.instr d.1).0
-    where
-      whole : (b : Bool) (a : Answer) (i : Instr) → (if b then a else Err Unknown) ≡ Ok i → a ≡ Ok i
-      whole true a i e = e
-      whole false a i e = absurd cc
+  pops = let d = decodes o f flow k x there in (decodes_use_stack d.place d.first d.second x.instr d.is).0
 
 module _ (o : ObjectParts) (f : FlowParts) (flow : IsFlow o f) (K : ℕ) (few : K ≤ 4) (k : ℕ) (x : Point) (there : slice_get f.points k ≡ Some x) (s : Sequence)
     (spare : (r : ℕ) → Contains s.scratch r → IsSpare f (boundaries K) x r)

@@ -5,6 +5,7 @@ pub mod Doing
 pub mod Pairs
 pub mod Charted
 pub mod Spared
+pub mod Living
 pub mod FirstRow
 pub mod AddsRow
 pub mod EmptyLoop

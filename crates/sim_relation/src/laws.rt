@@ -4,6 +4,7 @@ ghost use Rattle.sim_relation.specs.AddsRow.{AddsIsDone};
 ghost use Rattle.sim_relation.specs.Charted.{PairsWork};
 ghost use Rattle.sim_relation.specs.EmptyLoop.{EmptyLoopsWork};
 ghost use Rattle.sim_relation.specs.FirstRow.{CopyIsRefused, FirstRowIsPaired};
+ghost use Rattle.sim_relation.specs.Living.{AcceptedLive};
 ghost use Rattle.sim_relation.specs.Spared.{PairsSpare};
 
 /// MOVS r0, #5 and BX LR, each twice, are paired with the two.
@@ -34,4 +35,10 @@ pub fn pairs_work()
 /// What a unit loses is dead behind its point, and it keeps sp, and lr where the instruction names it.
 pub fn pairs_spare()
     ensures { PairsSpare }
+{}
+
+/// In a chart that has the points of an accepted object's flow, with what is live there, what a point uses and
+/// passes on is live, and no more is at entries and behind calls than is kept there.
+pub fn accepted_live()
+    ensures { AcceptedLive }
 {}
