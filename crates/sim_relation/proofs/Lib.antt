@@ -12,3 +12,4 @@ pub mod Bounded
 pub mod FlowPoints
 pub mod Spared
 pub mod Living
+pub mod TakenRows

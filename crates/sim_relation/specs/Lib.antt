@@ -9,3 +9,5 @@ pub mod Living
 pub mod FirstRow
 pub mod AddsRow
 pub mod EmptyLoop
+pub mod AddressMaps
+pub mod Taken
