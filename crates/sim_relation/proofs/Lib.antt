@@ -13,3 +13,4 @@ pub mod FlowPoints
 pub mod Spared
 pub mod Living
 pub mod TakenRows
+pub mod Refused

@@ -11,3 +11,4 @@ pub mod AddsRow
 pub mod EmptyLoop
 pub mod AddressMaps
 pub mod Taken
+pub mod Refused

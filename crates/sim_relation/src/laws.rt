@@ -5,6 +5,7 @@ ghost use Rattle.sim_relation.specs.Charted.{PairsWork};
 ghost use Rattle.sim_relation.specs.EmptyLoop.{EmptyLoopsWork};
 ghost use Rattle.sim_relation.specs.FirstRow.{CopyIsRefused, FirstRowIsPaired};
 ghost use Rattle.sim_relation.specs.Living.{AcceptedLive};
+ghost use Rattle.sim_relation.specs.Refused.{EachCopyIsLinked, ReadRegistersAreKept};
 ghost use Rattle.sim_relation.specs.Spared.{PairsSpare};
 
 /// MOVS r0, #5 and BX LR, each twice, are paired with the two.
@@ -41,4 +42,14 @@ pub fn pairs_spare()
 /// passes on is live, and no more is at entries and behind calls than is kept there.
 pub fn accepted_live()
     ensures { AcceptedLive }
+{}
+
+/// A register that the next instruction reads is no scratch register.
+pub fn read_registers_are_kept()
+    ensures { ReadRegistersAreKept }
+{}
+
+/// Two copies of MOVW of which the first has no relocation do not do one that has.
+pub fn each_copy_is_linked()
+    ensures { EachCopyIsLinked }
 {}
