@@ -14,3 +14,4 @@ pub mod Spared
 pub mod Living
 pub mod TakenRows
 pub mod Refused
+pub mod Copies

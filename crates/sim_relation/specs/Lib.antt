@@ -12,3 +12,4 @@ pub mod EmptyLoop
 pub mod AddressMaps
 pub mod Taken
 pub mod Refused
+pub mod Copies

@@ -2,6 +2,7 @@
 
 ghost use Rattle.sim_relation.specs.AddsRow.{AddsIsDone};
 ghost use Rattle.sim_relation.specs.Charted.{PairsWork};
+ghost use Rattle.sim_relation.specs.Copies.{FewerCopiesDo};
 ghost use Rattle.sim_relation.specs.EmptyLoop.{EmptyLoopsWork};
 ghost use Rattle.sim_relation.specs.FirstRow.{CopyIsRefused, FirstRowIsPaired};
 ghost use Rattle.sim_relation.specs.Living.{AcceptedLive};
@@ -52,4 +53,9 @@ pub fn read_registers_are_kept()
 /// Two copies of MOVW of which the first has no relocation do not do one that has.
 pub fn each_copy_is_linked()
     ensures { EachCopyIsLinked }
+{}
+
+/// What is done for more copies is done for fewer.
+pub fn fewer_copies_do()
+    ensures { FewerCopiesDo }
 {}
