@@ -1,0 +1,7 @@
+//! What an object and its hardened form are, said of their bytes: paired objects.
+#![tactic(auto)]
+
+mod address_maps;
+pub mod laws;
+
+pub use address_maps::{AddressMap, Taken};
