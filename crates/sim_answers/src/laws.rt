@@ -1,0 +1,23 @@
+//! Laws of hardened forms and the objects that they stand for. The functions do nothing: their contracts are the laws.
+
+ghost use Rattle.sim_answers.specs.Forms.{FlowsAreAccepted, PointsHavePlaces, SectionsStay, SymbolsStay};
+
+/// What an object with a flow makes of a symbol of code has bit 0 set, unless it is a branch.
+pub fn flows_are_accepted()
+    ensures { FlowsAreAccepted }
+{}
+
+/// Sections keep number and sort, and data its size.
+pub fn sections_stay()
+    ensures { SectionsStay }
+{}
+
+/// Points stand inside their sections, at even places.
+pub fn points_have_places()
+    ensures { PointsHavePlaces }
+{}
+
+/// Symbols that other objects see keep their order, and go with their points.
+pub fn symbols_stay()
+    ensures { SymbolsStay }
+{}

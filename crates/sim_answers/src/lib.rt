@@ -1,0 +1,6 @@
+//! Hardened forms answer their objects.
+#![tactic(auto)]
+
+mod laws;
+
+pub use laws::{flows_are_accepted, points_have_places, sections_stay, symbols_stay};
