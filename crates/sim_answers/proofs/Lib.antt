@@ -4,3 +4,6 @@ pub mod SectionsStay
 pub mod PointPlaces
 pub mod Numbers
 pub mod SymbolsStay
+pub mod Placed
+pub mod Answered
+pub mod DataAnswered

@@ -1,5 +1,5 @@
 -- Units of points, and where they stand.
-use Rattle.std.specs.Prelude.{◌≡◌, ◌<◌, ◌≤◌, ℕ, ◌+◌, ◌%◌, ◌==◌, ◌&&◌, not, Bool, true, false, cond, List, [], ◌∷◌, length, map, find, Option, Some, None, slice_get, Contains, refl}
+use Rattle.std.specs.Prelude.{Ok, ◌≡◌, ◌<◌, ◌≤◌, ℕ, ◌+◌, ◌%◌, ◌==◌, ◌&&◌, not, Bool, true, false, cond, List, [], ◌∷◌, length, map, find, Option, Some, None, slice_get, Contains, refl}
 use Rattle.std.specs.List.{zip}
 use Rattle.std.proofs.Common.{arith, inl, inr, ap, sym, ◌∙◌, subst, unwrap_or}
 use Rattle.std.proofs.lemmas.Bool.{cases_Bool, both_ways, and_parts, and_from, eqb-true, eq-eqb}
@@ -8,20 +8,23 @@ use Rattle.std.proofs.lemmas.List.{length-map}
 use Rattle.std.proofs.lemmas.List.Elements.{Contains-append_cases, Contains-append_left}
 use Rattle.elf_model.specs.declared.objects.Section.{Section}
 use Rattle.elf_model.specs.declared.objects.Symbol.{Symbol}
+use Rattle.elf_model.specs.declared.objects.Reloc.{Reloc}
 use Rattle.elf_model.specs.declared.objects.Home.TheVariants as homes
+use Rattle.elf_model.specs.Constants.{local}
 use Rattle.elf_model.specs.Canonical.{round_up}
 use Rattle.elf_model.specs.Objects.{ObjectParts, is_code}
 use Rattle.elf_model.specs.Ranges.{is_long, length_at}
 use Rattle.elf_model.specs.Fields.{half_at}
 use Rattle.elf_model.proofs.Elements.{contains_map, map_contains, contains_filter, filter_contains, found, finds, element_at, place_of, contains_at, contains_cases, contains_here, contains_later, contains_none}
-use Rattle.reloc_places.specs.Starts.{bytes_of, IsCodeStart}
-use Rattle.reloc_places.specs.Relocations.{reloc_at}
+use Rattle.reloc_places.specs.Starts.{bytes_of, IsCodeStart, decoded_at}
+use Rattle.reloc_places.specs.Relocations.{reloc_at, IsRight, target_of}
 use Rattle.reloc_places.proofs.StartFacts.{start_before, length_least}
 use Rattle.flow_recover.specs.declared.flows.Point.{Point}
 use Rattle.flow_recover.specs.Flows.{FlowParts}
 use Rattle.flow_recover.specs.Aims.{has_offset, aim_at, IsAim}
-use Rattle.flow_recover.specs.FlowFaults.{absolute}
-use Rattle.flow_recover.specs.Reach.{node_at}
+use Rattle.flow_recover.specs.Aims.IsAim.{by_symbol}
+use Rattle.flow_recover.specs.FlowFaults.{absolute, no_start, by_instr}
+use Rattle.flow_recover.specs.Reach.{Aims, node_at, IsReached, led_away, away}
 use Rattle.elf_model.specs.declared.refusals.Refusal.TheVariants as refusal
 use Rattle.flow_recover.specs.Points.{place_of_point}
 use Rattle.flow_recover.specs.WholeFlows.{IsEntry, IsFlow}
@@ -31,6 +34,7 @@ use Rattle.hardened_form.specs.Standing.{units, old_points, old_words, new_of, i
 use Rattle.hardened_form.specs.Carriers.{Carrier}
 use Rattle.sim_answers.specs.Units.{Divides, ended, longer, IsUnit}
 use Rattle.sim_answers.specs.Forms.{IsFormOf, PointsHavePlaces}
+use Rattle.sim_images.proofs.RightPlaces.{decoded_whole}
 use Rattle.sim_images.proofs.DataStay.{same_sort}
 use Rattle.sim_answers.proofs.SectionsStay.{section_of}
 use Rattle.sim_answers.proofs.Pairs.{zip_there, zip_left, zip_mapped, mapped_zip}
@@ -39,6 +43,8 @@ use Rattle.sim_answers.proofs.Pairs.{zip_there, zip_left, zip_mapped, mapped_zip
 pub record IsAtPoint (o : ObjectParts) (x : Point) : Type 0 where
   pub end : ℕ
   pub start : IsCodeStart o x.section (bytes_of o x.section) x.offset end
+  pub it : ℕ
+  pub instr : decoded_at (bytes_of o x.section) x.offset it ≡ Ok x.instr
   pub reloc : x.reloc ≡ reloc_at o x.section x.offset
   pub relative : has_offset x.instr ≡ true → (s : Symbol) (target : ℕ) → IsAim o x.section x.offset x.instr (aim_at x.section s homes.Absolute target) → ⊥
 
@@ -51,11 +57,44 @@ at_point o f flow x c =
     record {
       end = is.instr.end;
       start = subst (λ (j : ℕ). IsCodeStart o j (bytes_of o j) x.offset is.instr.end) (sym is.section) (subst (λ (a : ℕ). IsCodeStart o n.0.section (bytes_of o n.0.section) a is.instr.end) (sym is.offset) is.instr.start);
+      it = n.0.it;
+      instr = ap (λ (j : ℕ). decoded_at (bytes_of o j) x.offset n.0.it) is.section ∙ (ap (λ (a : ℕ). decoded_at (bytes_of o n.0.section) a n.0.it) is.offset
+          ∙ (decoded_whole (bytes_of o n.0.section) is.instr.end n.0.offset n.0.it x.instr is.instr.is).1);
       reloc = is.reloc ∙ (ap (λ (j : ℕ). reloc_at o j n.0.offset) (sym is.section) ∙ ap (λ (a : ℕ). reloc_at o x.section a) (sym is.offset));
       relative = λ has s target aim.
           flow.no_fault refusal.IntoMiddle n.0.section n.0.offset (absolute n.0 x.instr (record { reached = reached; found = is.instr }) has
           (subst (λ (j : ℕ). IsAim o j n.0.offset x.instr (aim_at j s homes.Absolute target)) is.section (subst (λ (a : ℕ). IsAim o x.section a x.instr (aim_at x.section s homes.Absolute target)) is.offset aim)) refl refl refl);
     }
+
+-- what control reaches with a clear IT state is a point
+pub reached_point : (o : ObjectParts) (f : FlowParts) → IsFlow o f → (j x : ℕ) → IsReached o (node_at j x) → (p : Point) × Contains f.points p × (p.section ≡ j) × (p.offset ≡ x)
+reached_point o f flow j x reached =
+    let k = place_of flow.nodes (node_at j x) ((flow.reached (node_at j x)).1 reached) in
+    let p = element_at f.points k.0 (subst (λ (m : ℕ). k.0 < m) (sym flow.count) (slice_get_within flow.nodes k.0 (node_at j x) k.1)) in
+    let is = flow.points k.0 (node_at j x) p.0 k.1 p.1 in
+    (p.0, contains_at f.points k.0 p.0 p.1, is.section, is.offset)
+
+-- A branch or call by a symbol of its own section leads to a point.
+pub own_target_point : (o : ObjectParts) (f : FlowParts) → IsFlow o f → (x : Point) → Contains f.points x → has_offset x.instr ≡ true → (k : ℕ) (r : Reloc) (s : Symbol) → x.reloc ≡ Some k → IsRight o k r
+    → slice_get o.symbols r.symbol ≡ Some s → s.home ≡ homes.Section x.section → ((p : Point) × Contains f.points p × (p.section ≡ x.section) × (p.offset ≡ target_of o r s) → ⊥) → ⊥
+own_target_point o f flow x c has k r s at right names home none =
+    let q = place_of f.points x c in
+    let n = element_at flow.nodes q.0 (subst (λ (m : ℕ). q.0 < m) flow.count (slice_get_within f.points q.0 x q.1)) in
+    let is = flow.points q.0 n.0 x n.1 q.1 in
+    let reached = (flow.reached n.0).0 (contains_at flow.nodes q.0 n.0 n.1) in
+    let here : reloc_at o n.0.section n.0.offset ≡ Some k = sym is.reloc ∙ at in
+    let own : s.home ≡ homes.Section n.0.section = home ∙ ap (λ (j : ℕ). homes.Section j) is.section in
+    let aims : Aims o n.0 x.instr (target_of o r s) = record {
+      has = has;
+      aim = elim (cases_Bool (s.bind == local)) [
+        | inl t ↦ inl (by_symbol k r s here right names (rw own (rw (eq-eqb n.0.section n.0.section refl) (rw t refl))))
+        | inr t ↦ inr (by_symbol k r s here right names (rw own (rw (eq-eqb n.0.section n.0.section refl) (rw t refl))))
+      ];
+    } in
+    flow.no_fault refusal.IntoMiddle n.0.section n.0.offset
+    (no_start n.0.section (target_of o r s) (by_instr n.0 x.instr (record { reached = reached; found = is.instr }) aims refl refl refl)
+    (λ start. none (let p = reached_point o f flow n.0.section (target_of o r s) (led_away n.0 (node_at n.0.section (target_of o r s)) reached (away x.instr (target_of o r s) is.instr aims refl start)) in
+    (p.0, p.1, p.2 ∙ sym is.section, p.3))) refl)
 
 -- each entry is a point
 pub entry_point : (o : ObjectParts) (f : FlowParts) → IsFlow o f → (j x : ℕ) → IsEntry o j x → (p : Point) × Contains f.points p × (p.section ≡ j) × (p.offset ≡ x)

@@ -7,7 +7,7 @@ use Rattle.hardened_form.specs.Places.{Places as UnitPlaces}
 use Rattle.hardened_form.specs.Standing.{new_place}
 use Rattle.hardened_form.specs.Carriers.{Carrier}
 use Rattle.hardened_form.specs.HardenedForms.{IsHardenedForm}
-use Rattle.sim_images.specs.Counterparts.{Places, SectionsAnswer, SymbolsAnswer, PlacesInside, IsAccepted}
+use Rattle.sim_images.specs.Counterparts.{Places, SectionsAnswer, SymbolsAnswer, PlacesInside, IsAccepted, DataAnswers}
 use Rattle.sim_answers.specs.Units.{AreUnits}
 
 -- An object and its hardened form, both objects, and the flow that the form follows.
@@ -35,3 +35,7 @@ SymbolsStay = (o h : ObjectParts) (f : FlowParts) (p : UnitPlaces) (carriers : L
 
 abbrev pub PointsHavePlaces : Type 0
 PointsHavePlaces = (o h : ObjectParts) (f : FlowParts) (p : UnitPlaces) (carriers : List (List Carrier)) (is : IsFormOf o h f p carriers) → PlacesInside o h (new_places is)
+
+-- Each word that is linked in data answers one at its offset.
+abbrev pub DataIsAnswered : Type 0
+DataIsAnswered = (o h : ObjectParts) (f : FlowParts) (p : UnitPlaces) (carriers : List (List Carrier)) (is : IsFormOf o h f p carriers) → DataAnswers o h (new_places is)

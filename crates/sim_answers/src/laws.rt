@@ -1,6 +1,6 @@
 //! Laws of hardened forms and the objects that they stand for. The functions do nothing: their contracts are the laws.
 
-ghost use Rattle.sim_answers.specs.Forms.{FlowsAreAccepted, PointsHavePlaces, SectionsStay, SymbolsStay};
+ghost use Rattle.sim_answers.specs.Forms.{DataIsAnswered, FlowsAreAccepted, PointsHavePlaces, SectionsStay, SymbolsStay};
 
 /// What an object with a flow makes of a symbol of code has bit 0 set, unless it is a branch.
 pub fn flows_are_accepted()
@@ -20,4 +20,9 @@ pub fn points_have_places()
 /// Symbols that other objects see keep their order, and go with their points.
 pub fn symbols_stay()
     ensures { SymbolsStay }
+{}
+
+/// What the relocations of a hardened form in data are.
+pub fn data_answers()
+    ensures { DataIsAnswered }
 {}
