@@ -175,14 +175,14 @@ module _ (o h : ObjectParts) (f : FlowParts) (p : UnitPlaces) (carriers : List (
       ]
 
   -- where code is
-  code_of_point : (x : Point) → Contains f.points x → holds_code (slice_get o.sections x.section) ≡ true
+  pub code_of_point : (x : Point) → Contains f.points x → holds_code (slice_get o.sections x.section) ≡ true
   code_of_point x c = let at = at_point o f is.flow x c in ap holds_code at.start.range.is_there ∙ at.start.range.in_code
 
   pub word_listed : (w : PoolWord) (y : ℕ) → IsWordOf f p w y → Contains f.words w
   word_listed w y (in_pool _ c) = zip_left f.words p.words (w, y) c
   word_listed w y (in_island x u n _ c names at is) = contains_at f.words n w at
 
-  code_of_word : (w : PoolWord) → Contains f.words w → holds_code (slice_get o.sections w.section) ≡ true
+  pub code_of_word : (w : PoolWord) → Contains f.words w → holds_code (slice_get o.sections w.section) ≡ true
   code_of_word w c =
       let loads = (is.flow.words w).0 c in
       let range = loads.loads.found.start.range in

@@ -7,3 +7,4 @@ pub mod SymbolsStay
 pub mod Placed
 pub mod Answered
 pub mod DataAnswered
+pub mod RelocsStand

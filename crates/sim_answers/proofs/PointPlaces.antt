@@ -197,7 +197,7 @@ evens (z ∷ rest) x size stand even each it c =
     begins true e = ap (λ (n : ℕ). n % 2) e ∙ even_word x
     begins false e = ap (λ (n : ℕ). n % 2) e ∙ even
 
-further : (bytes : List ℕ) (x : ℕ) → x % 2 ≡ 0 → (x + length_at bytes x) % 2 ≡ 0
+pub further : (bytes : List ℕ) (x : ℕ) → x % 2 ≡ 0 → (x + length_at bytes x) % 2 ≡ 0
 further bytes x even = go (is_long (half_at bytes x)) refl
   where
     four : (x + 4) % 2 ≡ 0

@@ -1,6 +1,6 @@
 //! Laws of hardened forms and the objects that they stand for. The functions do nothing: their contracts are the laws.
 
-ghost use Rattle.sim_answers.specs.Forms.{DataIsAnswered, FlowsAreAccepted, PointsHavePlaces, SectionsStay, SymbolsStay};
+ghost use Rattle.sim_answers.specs.Forms.{DataIsAnswered, FlowsAreAccepted, PointsHavePlaces, RelocsStand, SectionsStay, SymbolsStay};
 
 /// What an object with a flow makes of a symbol of code has bit 0 set, unless it is a branch.
 pub fn flows_are_accepted()
@@ -25,4 +25,9 @@ pub fn symbols_stay()
 /// What the relocations of a hardened form in data are.
 pub fn data_answers()
     ensures { DataIsAnswered }
+{}
+
+/// Each relocation of a hardened form answers one of its object, and is of no short branch.
+pub fn relocations_stand()
+    ensures { RelocsStand }
 {}

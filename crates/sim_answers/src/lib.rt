@@ -3,4 +3,4 @@
 
 mod laws;
 
-pub use laws::{data_answers, flows_are_accepted, points_have_places, sections_stay, symbols_stay};
+pub use laws::{data_answers, flows_are_accepted, points_have_places, relocations_stand, sections_stay, symbols_stay};
