@@ -1,11 +1,10 @@
 -- A relocation of a hardened form that stands for one of the object answers it.
-use Rattle.std.specs.Prelude.{◌≡◌, ◌<◌, ◌⊎◌, ℕ, ◌+◌, ◌-◌, ◌^◌, ◌==◌, ◌&&◌, ◌||◌, not, Bool, true, false, cond, List, ◌++◌, length, map, filter, unwrap_or, Option, Some, None, slice_get, Contains, refl}
+use Rattle.std.specs.Prelude.{◌≡◌, ◌⊎◌, ℕ, ◌+◌, ◌-◌, ◌^◌, ◌==◌, ◌&&◌, ◌||◌, not, Bool, true, false, cond, List, ◌++◌, length, map, filter, unwrap_or, Option, Some, None, slice_get, refl}
 use Rattle.std.proofs.Common.{arith, inl, inr, ap, sym, ◌∙◌, subst}
 use Rattle.std.proofs.lemmas.Bool.{cases_Bool, both_ways, and_parts, and_from, or_right, eqb-true, eq-eqb}
-use Rattle.std.proofs.lemmas.Option.{none-some, same_Some}
+use Rattle.std.proofs.lemmas.Option.{none-some}
 use Rattle.std.proofs.lemmas.List.{length-map, length-append}
 use Rattle.std.proofs.lemmas.List.Sums.{length-filter}
-use Rattle.elf_model.specs.declared.objects.Section.{Section}
 use Rattle.elf_model.specs.declared.objects.Symbol.{Symbol}
 use Rattle.elf_model.specs.declared.objects.Reloc.{Reloc}
 use Rattle.elf_model.specs.declared.objects.RelocKind.{RelocKind}
@@ -13,32 +12,31 @@ use Rattle.elf_model.specs.declared.objects.Home.{Home}
 use Rattle.elf_model.specs.declared.objects.Home.TheVariants as homes
 use Rattle.elf_model.specs.declared.refusals.Refusal.TheVariants as refusal
 use Rattle.elf_model.specs.Constants.{local, func}
-use Rattle.elf_model.specs.Objects.{ObjectParts, is_code, even}
+use Rattle.elf_model.specs.Objects.{ObjectParts, even}
 use Rattle.elf_model.proofs.Lists.{get_left, get_right, get_map}
 use Rattle.code_ranges.specs.CodeRanges.{holds_code}
 use Rattle.reloc_places.specs.Starts.{bytes_of, HasStart}
 use Rattle.reloc_places.specs.Relocations.{is_jump, IsRight, is_in_code, is_undefined, is_open_jump, addend, value_of, target_of}
 use Rattle.flow_recover.specs.Flows.{FlowParts}
-use Rattle.flow_recover.specs.Aims.{is_entry, has_offset, aim_at, IsAim, IsNamed}
+use Rattle.flow_recover.specs.Aims.{is_entry, has_offset, aim_at}
 use Rattle.flow_recover.specs.Aims.IsAim.{by_symbol as aims_by}
 use Rattle.flow_recover.specs.Aims.IsNamed.{by_address, by_branch}
 use Rattle.flow_recover.specs.FlowFaults.{no_start, by_object}
 use Rattle.flow_recover.specs.WholeFlows.IsEntry.{named}
 use Rattle.hardened_form.specs.Places.{Places as UnitPlaces}
-use Rattle.hardened_form.specs.Standing.{new_place}
-use Rattle.hardened_form.specs.Turns.{zero_addend, is_direct, turns_by, is_turned, Target, old_target, IsTarget, new_addend}
+use Rattle.hardened_form.specs.Turns.{zero_addend, is_direct, turns_by, is_turned, Target, old_target, new_addend}
 use Rattle.hardened_form.specs.MappingSymbols.{mapping_symbol}
-use Rattle.hardened_form.specs.Symbols.{Lists, moved, stays, target_symbol}
+use Rattle.hardened_form.specs.Symbols.{moved, stays, target_symbol}
 use Rattle.hardened_form.specs.Carriers.{Carrier}
-use Rattle.hardened_form.specs.Relocs.{first_target, new_number, IsNewSymbol, StandsFor}
+use Rattle.hardened_form.specs.Relocs.{first_target, IsNewSymbol, StandsFor}
 use Rattle.hardened_form.specs.Relocs.IsNewSymbol.{same, own}
-use Rattle.sim_images.specs.Counterparts.{IsCounterpart, LeadsTo, IsFunctionAt, Answers}
+use Rattle.sim_images.specs.Counterparts.{IsCounterpart, IsFunctionAt, Answers}
 use Rattle.sim_images.specs.Counterparts.Answers.{by_symbol, by_target}
 use Rattle.sim_answers.specs.Forms.{IsFormOf, new_places}
-use Rattle.sim_answers.proofs.Accepted.{code_home, makes_address, not_wrong}
+use Rattle.sim_answers.proofs.Accepted.{makes_address, not_wrong}
 use Rattle.sim_answers.proofs.PointPlaces.{at_point, own_target_point, point_placed}
-use Rattle.sim_answers.proofs.SymbolsStay.{entry_placed, counterpart, front, back}
-use Rattle.sim_answers.proofs.Placed.{symbol_of, same_at_last, IsOfPoint, jump_at}
+use Rattle.sim_answers.proofs.SymbolsStay.{entry_placed, counterpart, back}
+use Rattle.sim_answers.proofs.Placed.{same_at_last, IsOfPoint, jump_at}
 
 -- the section where an instruction starts is code
 start_in_code : (o : ObjectParts) (j x : ℕ) → HasStart o j x → holds_code (slice_get o.sections j) ≡ true

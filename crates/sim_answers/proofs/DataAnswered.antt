@@ -2,29 +2,27 @@
 use Rattle.std.specs.Prelude.{◌≡◌, ◌<◌, ◌≤◌, ◌⊎◌, ℕ, ◌+◌, ◌^◌, ◌-◌, ◌==◌, ◌&&◌, ◌||◌, nat_le, nat_lt, Bool, true, false, cond, List, [], ◌∷◌, length, get_or, drop, Some, slice_get, Contains, refl}
 use Rattle.std.specs.List.{list_any}
 use Rattle.std.proofs.Common.{arith, inl, inr, ap, sym, ◌∙◌, subst, get_or-drop}
-use Rattle.std.proofs.lemmas.Bool.{cases_Bool, cases_lt, cases_order, both_ways, and_parts, and_from, or_left, or_right, or_cases, eqb-true, eq-eqb, leb-true, ltb-true, lt-ltb, le-leb, false_from_ne_true}
+use Rattle.std.proofs.lemmas.Bool.{cases_Bool, cases_lt, cases_order, both_ways, and_parts, and_from, or_left, or_right, eqb-true, eq-eqb, leb-true, ltb-true, lt-ltb, le-leb, false_from_ne_true}
 use Rattle.std.proofs.lemmas.List.{get_or_past}
-use Rattle.std.proofs.lemmas.Option.{none-some, same_Some, slice_get_within}
+use Rattle.std.proofs.lemmas.Option.{same_Some}
 use Rattle.elf_model.specs.declared.objects.Section.{Section}
-use Rattle.elf_model.specs.declared.objects.Symbol.{Symbol}
 use Rattle.elf_model.specs.declared.objects.Reloc.{Reloc}
 use Rattle.elf_model.specs.declared.objects.Home.TheVariants as homes
 use Rattle.elf_model.specs.Fields.{byte_at, word_at}
 use Rattle.elf_model.specs.Objects.{ObjectParts, is_code, place_width}
-use Rattle.elf_model.proofs.Elements.{element_at, place_of, contains_at, contains_cases, contains_here, contains_later, contains_none}
+use Rattle.elf_model.proofs.Elements.{place_of, contains_at, contains_cases, contains_here, contains_later, contains_none}
 use Rattle.code_ranges.specs.CodeRanges.{holds_code}
 use Rattle.code_ranges.proofs.ObjectFacts.{reloc_sound}
 use Rattle.reloc_places.specs.Starts.{bytes_in, bytes_of}
-use Rattle.reloc_places.specs.Relocations.{is_word, is_jump, IsRight, addend}
+use Rattle.reloc_places.specs.Relocations.{is_word, is_jump, addend}
 use Rattle.reloc_places.proofs.RelocPlaces.{reloc_inside}
 use Rattle.flow_recover.specs.declared.flows.Point.{Point}
 use Rattle.flow_recover.specs.declared.flows.PoolWord.{PoolWord}
 use Rattle.flow_recover.specs.Flows.{FlowParts}
-use Rattle.flow_recover.specs.WholeFlows.{IsFlow}
 use Rattle.hardened_form.specs.Places.{Places as UnitPlaces}
-use Rattle.hardened_form.specs.Sections.{is_cleared, IsKept}
+use Rattle.hardened_form.specs.Sections.{is_cleared}
 use Rattle.hardened_form.specs.Turns.{zero_addend, is_turned, Target, old_target, IsTarget, of_data as stays_data, new_addend}
-use Rattle.hardened_form.specs.Carriers.{Carrier, IsCarrier}
+use Rattle.hardened_form.specs.Carriers.{Carrier}
 use Rattle.hardened_form.specs.Relocs.{new_number, first_target, IsNewSymbol, StandsFor, IsWordOf, in_pool, in_island, IsNewReloc, of_data, of_step, of_word}
 use Rattle.hardened_form.specs.Relocs.IsNewSymbol.{same, own}
 use Rattle.sim_images.specs.Counterparts.{Answers}
@@ -35,7 +33,7 @@ use Rattle.sim_answers.proofs.Accepted.{code_home, not_wrong}
 use Rattle.sim_answers.proofs.Pairs.{zip_left}
 use Rattle.sim_answers.proofs.PointPlaces.{at_point}
 use Rattle.sim_answers.proofs.SectionsStay.{sections_stay}
-use Rattle.sim_answers.proofs.Placed.{reloc_at_is, symbol_of, true_at_last, false_at_last, word_no_jump, data_kind, word_addend}
+use Rattle.sim_answers.proofs.Placed.{reloc_at_is, symbol_of, true_at_last, word_no_jump, data_kind, word_addend}
 use Rattle.sim_answers.proofs.Answered.{turned_parts, answered}
 
 pub any_there : {X : Type 0} (t : X → Bool) (xs : List X) → list_any t xs ≡ true → (x : X) × Contains xs x × (t x ≡ true)
@@ -101,7 +99,7 @@ module _ (o h : ObjectParts) (f : FlowParts) (p : UnitPlaces) (carriers : List (
   word_in_data k r s there at other = true_at_last (is_word r.kind) (λ wrong. not_wrong o f is.flow k r there (λ right. wrong (data_kind o r s at other right.place).1))
 
   -- of two in one section of data one stands behind the other
-  apart : (k n : ℕ) (r q : Reloc) (s : Section) → slice_get o.relocs k ≡ Some r → slice_get o.relocs n ≡ Some q → slice_get o.sections q.section ≡ Some s → is_code s ≡ false → q.section ≡ r.section → n < k
+  pub apart : (k n : ℕ) (r q : Reloc) (s : Section) → slice_get o.relocs k ≡ Some r → slice_get o.relocs n ≡ Some q → slice_get o.sections q.section ≡ Some s → is_code s ≡ false → q.section ≡ r.section → n < k
       → (r.offset < q.offset + 4 → ⊥)
   apart k n r q s there here at other section l over =
       not_wrong o f is.flow k r there (λ right.
@@ -188,7 +186,7 @@ module _ (o h : ObjectParts) (f : FlowParts) (p : UnitPlaces) (carriers : List (
       let range = loads.loads.found.start.range in
       ap (λ (j : ℕ). holds_code (slice_get o.sections j)) loads.section ∙ (ap holds_code range.is_there ∙ range.in_code)
 
-  no_data_there : (j n : ℕ) (t : Section) → holds_code (slice_get o.sections j) ≡ true → n ≡ j → slice_get h.sections n ≡ Some t → is_code t ≡ false → ⊥
+  pub no_data_there : (j n : ℕ) (t : Section) → holds_code (slice_get o.sections j) ≡ true → n ≡ j → slice_get h.sections n ≡ Some t → is_code t ≡ false → ⊥
   no_data_there j n t code e there other =
       let kept = code_kept o h (sections_stay o h f p carriers is) (homes.Section j) in
       both_ways (is_code t) other (sym (ap holds_code (sym (ap (slice_get h.sections) e) ∙ there)) ∙ (kept ∙ code))

@@ -8,3 +8,9 @@ pub mod Placed
 pub mod Answered
 pub mod DataAnswered
 pub mod RelocsStand
+pub mod Marks
+pub mod CodeWords
+pub mod CodeRuns
+pub mod RightRelocs
+pub mod UnitsStand
+pub mod FormsAnswer

@@ -1,23 +1,18 @@
 -- The relocations of points and words of an object with a flow: where they stand and lead.
-use Rattle.std.specs.Prelude.{◌≡◌, ◌<◌, ◌≤◌, ◌⊎◌, ℕ, ◌+◌, ◌-◌, ◌^◌, ◌==◌, ◌&&◌, ◌||◌, not, Bool, true, false, cond, List, length, Option, Some, None, Ok, Err, slice_get, position, Contains, refl}
-use Rattle.std.proofs.Common.{arith, inl, inr, ap, sym, ◌∙◌, subst}
-use Rattle.std.proofs.lemmas.Bool.{cases_Bool, both_ways, and_parts, and_from, and_cases, eqb-true, eqb-false, eq-eqb, ltb-true, not-true}
-use Rattle.std.proofs.lemmas.Option.{none-some, same_Some, get_or_from_slice_get}
+use Rattle.std.specs.Prelude.{◌≡◌, ℕ, ◌+◌, ◌==◌, ◌&&◌, not, Bool, true, false, cond, List, length, Some, None, Ok, Err, slice_get, Contains, refl}
+use Rattle.std.proofs.Common.{arith, ap, sym, ◌∙◌, subst}
+use Rattle.std.proofs.lemmas.Bool.{both_ways, and_parts, eqb-true, eq-eqb, ltb-true}
+use Rattle.std.proofs.lemmas.Option.{same_Some, get_or_from_slice_get}
 use Rattle.std.proofs.lemmas.List.Quantifiers.{position-Some}
 use Rattle.elf_model.specs.declared.objects.Section.{Section}
 use Rattle.elf_model.specs.declared.objects.Symbol.{Symbol}
 use Rattle.elf_model.specs.declared.objects.Reloc.{Reloc}
 use Rattle.elf_model.specs.declared.objects.RelocKind.{RelocKind}
 use Rattle.elf_model.specs.declared.objects.RelocKind.TheVariants.{Abs32, Target1, ThmCall, ThmJump24, MovwAbs, MovtAbs, ThmJump19, ThmJump11, ThmJump8, Other}
-use Rattle.elf_model.specs.declared.objects.Home.{Home}
-use Rattle.elf_model.specs.declared.objects.Home.TheVariants as homes
-use Rattle.elf_model.specs.declared.refusals.Refusal.TheVariants as refusal
-use Rattle.elf_model.specs.Constants.{local, func}
 use Rattle.elf_model.specs.Fields.{half_at, word_at}
-use Rattle.elf_model.specs.Objects.{ObjectParts, is_object, is_code, is_data, even, is_placed, is_kind, is_reloc}
+use Rattle.elf_model.specs.Objects.{ObjectParts, is_object, is_code, is_data, is_placed, is_kind}
 use Rattle.elf_model.specs.Ranges.{is_long}
 use Rattle.elf_model.proofs.Elements.{element_at}
-use Rattle.code_ranges.specs.CodeRanges.{holds_code}
 use Rattle.code_ranges.proofs.ObjectFacts.{reloc_sound}
 use Rattle.thumb_instr.specs.declared.instructions.Instr.{Instr}
 use Rattle.thumb_instr.specs.declared.instructions.Instr.TheVariants as instr
@@ -28,21 +23,15 @@ use Rattle.thumb_instr.specs.Blocks.{place_in_block}
 use Rattle.thumb_instr.specs.Numbers.{has_number, is_taken}
 use Rattle.thumb_instr.specs.Rows.{is_wide, decode, decode_given}
 use Rattle.thumb_instr.proofs.Numbers.{answers_taken}
-use Rattle.reloc_places.specs.Starts.{bytes_of, HasStart, IsDataWord, decoded_at}
-use Rattle.reloc_places.specs.Relocations.{is_word, is_jump, is_half, is_bl, is_b, is_mov, fits_kind, IsPlace, in_data, in_code, on_instr, IsRight, is_in_code, is_undefined, is_open_jump, number_in, addend, reloc_at, value_of, target_of}
+use Rattle.reloc_places.specs.Starts.{bytes_of, IsDataWord, decoded_at}
+use Rattle.reloc_places.specs.Relocations.{is_word, is_jump, is_bl, is_b, fits_kind, IsPlace, in_data, in_code, on_instr, IsRight, number_in, addend, reloc_at}
 use Rattle.reloc_places.proofs.StartFacts.{start_before, start_behind}
 use Rattle.flow_recover.specs.declared.flows.Point.{Point}
-use Rattle.flow_recover.specs.declared.flows.PoolWord.{PoolWord}
 use Rattle.flow_recover.specs.Flows.{FlowParts}
-use Rattle.flow_recover.specs.Aims.{has_offset, aim_at, IsAim, IsNamed, by_address, by_branch}
-use Rattle.flow_recover.specs.Aims.IsAim.{by_symbol}
-use Rattle.flow_recover.specs.FlowFaults.{no_start, no_word, by_object}
-use Rattle.flow_recover.specs.WholeFlows.{IsEntry, IsFlow}
-use Rattle.flow_recover.specs.WholeFlows.IsEntry.{named}
-use Rattle.hardened_form.specs.Turns.{zero_addend, is_direct, turns_by, is_turned, old_target}
-use Rattle.sim_images.proofs.RightPlaces.{decoded_whole, no_both, no_data}
-use Rattle.sim_answers.proofs.Accepted.{code_home, makes_address, not_wrong}
-use Rattle.sim_answers.proofs.PointPlaces.{IsAtPoint, at_point, own_target_point}
+use Rattle.flow_recover.specs.Aims.{has_offset}
+use Rattle.flow_recover.specs.WholeFlows.{IsFlow}
+use Rattle.sim_images.proofs.RightPlaces.{decoded_whole, no_both}
+use Rattle.sim_answers.proofs.PointPlaces.{IsAtPoint, at_point}
 
 -- the relocation at a place stands there
 pub reloc_at_is : (o : ObjectParts) (j x k : ℕ) (r : Reloc) → reloc_at o j x ≡ Some k → slice_get o.relocs k ≡ Some r → (r.section ≡ j) × (r.offset ≡ x)

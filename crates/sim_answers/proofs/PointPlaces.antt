@@ -27,7 +27,9 @@ use Rattle.flow_recover.specs.FlowFaults.{absolute, no_start, by_instr}
 use Rattle.flow_recover.specs.Reach.{Aims, node_at, IsReached, led_away, away}
 use Rattle.elf_model.specs.declared.refusals.Refusal.TheVariants as refusal
 use Rattle.flow_recover.specs.Points.{place_of_point}
+use Rattle.flow_recover.specs.declared.flows.PoolWord.{PoolWord}
 use Rattle.flow_recover.specs.WholeFlows.{IsEntry, IsFlow}
+use Rattle.flow_recover.specs.WholeFlows.IsLoaded.{literal, none as unloaded}
 use Rattle.hardened_form.specs.Places.{UnitPlace, Places}
 use Rattle.hardened_form.specs.Items.{Item, item_of_unit, item_of_word, AreItems, items_in, new_start, StandFrom}
 use Rattle.hardened_form.specs.Standing.{units, old_points, old_words, new_of, is_unit_of, new_place}
@@ -95,6 +97,20 @@ own_target_point o f flow x c has k r s at right names home none =
     (no_start n.0.section (target_of o r s) (by_instr n.0 x.instr (record { reached = reached; found = is.instr }) aims refl refl refl)
     (λ start. none (let p = reached_point o f flow n.0.section (target_of o r s) (led_away n.0 (node_at n.0.section (target_of o r s)) reached (away x.instr (target_of o r s) is.instr aims refl start)) in
     (p.0, p.1, p.2 ∙ sym is.section, p.3))) refl)
+
+-- the word that a point loads is of its section
+pub point_word : (o : ObjectParts) (f : FlowParts) → IsFlow o f → (x : Point) → Contains f.points x → (n : ℕ) (w : PoolWord) → x.word ≡ Some n → slice_get f.words n ≡ Some w → w.section ≡ x.section
+point_word o f flow x c n w loads at =
+    let q = place_of f.points x c in
+    let m = element_at flow.nodes q.0 (subst (λ (k : ℕ). q.0 < k) flow.count (slice_get_within f.points q.0 x q.1)) in
+    let is = flow.points q.0 m.0 x m.1 q.1 in
+    elim (is.word) [
+      | literal l k v form there section place named ↦
+          let same : k ≡ n = same_Some k n (sym named ∙ loads) in
+          let one : v ≡ w = same_Some v w (sym there ∙ (ap (slice_get f.words) same ∙ at)) in
+          ap (λ (z : PoolWord). z.section) (sym one) ∙ (section ∙ sym is.section)
+      | unloaded free named ↦ absurd (none-some n (sym named ∙ loads))
+    ]
 
 -- each entry is a point
 pub entry_point : (o : ObjectParts) (f : FlowParts) → IsFlow o f → (j x : ℕ) → IsEntry o j x → (p : Point) × Contains f.points p × (p.section ≡ j) × (p.offset ≡ x)

@@ -1,9 +1,9 @@
 -- Each relocation of a hardened form answers one of its object, and branches are long.
-use Rattle.std.specs.Prelude.{◌≡◌, ◌<◌, ◌≤◌, ◌⊎◌, ℕ, ◌+◌, ◌-◌, ◌%◌, ◌^◌, ◌==◌, ◌&&◌, not, Bool, true, false, cond, List, [], ◌∷◌, length, Option, Some, None, Ok, slice_get, Contains, refl}
+use Rattle.std.specs.Prelude.{◌≡◌, ◌≤◌, ℕ, ◌%◌, ◌^◌, Bool, true, false, cond, List, [], ◌∷◌, length, Option, Some, None, slice_get, Contains, refl}
 use Rattle.std.specs.List.{zip}
 use Rattle.std.proofs.Common.{arith, inl, inr, ap, sym, ◌∙◌, subst}
-use Rattle.std.proofs.lemmas.Bool.{cases_Bool, both_ways}
-use Rattle.std.proofs.lemmas.Option.{none-some, same_Some}
+use Rattle.std.proofs.lemmas.Bool.{both_ways}
+use Rattle.std.proofs.lemmas.Option.{same_Some}
 use Rattle.std.proofs.lemmas.List.{length-map}
 use Rattle.elf_model.specs.declared.objects.Section.{Section}
 use Rattle.elf_model.specs.declared.objects.Reloc.{Reloc}
@@ -13,8 +13,8 @@ use Rattle.elf_model.specs.declared.objects.Home.TheVariants as homes
 use Rattle.elf_model.specs.declared.refusals.Refusal.TheVariants as refusal
 use Rattle.elf_model.specs.Fields.{word_at}
 use Rattle.elf_model.specs.Objects.{ObjectParts, is_code}
-use Rattle.elf_model.specs.Ranges.{length_at, IsStart, first, next}
-use Rattle.elf_model.proofs.Elements.{element_at, contains_at, contains_cases, contains_here, contains_later, contains_none}
+use Rattle.elf_model.specs.Ranges.{IsStart, first, next}
+use Rattle.elf_model.proofs.Elements.{contains_cases, contains_here, contains_later, contains_none}
 use Rattle.code_ranges.specs.CodeRanges.{holds_code}
 use Rattle.thumb_instr.specs.declared.instructions.Instr.{Instr}
 use Rattle.thumb_instr.specs.declared.instructions.Instr.TheVariants as instr
@@ -31,18 +31,18 @@ use Rattle.hardened_form.specs.Standing.{units}
 use Rattle.hardened_form.specs.Code.{word_number, reloc_of}
 use Rattle.hardened_form.specs.Turns.{zero_addend, new_addend}
 use Rattle.hardened_form.specs.Carriers.{Carrier, IsCarrier, IsCarried, kind_on}
-use Rattle.hardened_form.specs.Relocs.{StandsFor, IsWordOf, IsNewReloc, of_data, of_step, of_word}
+use Rattle.hardened_form.specs.Relocs.{StandsFor, IsNewReloc, of_data, of_step, of_word}
 use Rattle.sim_images.specs.Counterparts.{SameSense, Answers}
 use Rattle.sim_images.proofs.HomesAlike.{code_kept}
 use Rattle.sim_answers.specs.Units.{IsStep, code_end}
-use Rattle.sim_answers.specs.Forms.{IsFormOf, new_places, RelocsStand}
+use Rattle.sim_answers.specs.Forms.{IsFormOf, new_places}
 use Rattle.sim_answers.proofs.Accepted.{not_wrong}
 use Rattle.sim_answers.proofs.Pairs.{zip_left}
 use Rattle.sim_answers.proofs.PointPlaces.{at_point, further, unit_even}
 use Rattle.sim_answers.proofs.SectionsStay.{sections_stay}
-use Rattle.sim_answers.proofs.Placed.{reloc_at_is, true_at_last, IsOfPoint, word_kind, word_no_jump, word_addend}
+use Rattle.sim_answers.proofs.Placed.{reloc_at_is, true_at_last, word_kind, word_no_jump, word_addend}
 use Rattle.sim_answers.proofs.Answered.{answered}
-use Rattle.sim_answers.proofs.DataAnswered.{word_in_data, data_word, code_of_point, word_listed, code_of_word}
+use Rattle.sim_answers.proofs.DataAnswered.{word_in_data, data_word, code_of_point, word_listed}
 
 -- with what stands beside in a third list
 zip_between : {A B C : Type 0} (xs : List A) (ys : List B) (zs : List C) → length xs ≡ length ys → (x : A) (z : C) → Contains (zip xs zs) (x, z) → (y : B) × Contains (zip (zip xs ys) zs) ((x, y), z)
@@ -145,17 +145,22 @@ module _ (o h : ObjectParts) (f : FlowParts) (p : UnitPlaces) (carriers : List (
       true_at_last (is_word r.kind) (λ wrong. not_wrong o f is.flow k r there (λ right. pool_word w c (λ at.
       wrong (word_kind o r (subst (λ (j : ℕ). IsDataWord o j r.offset) (sym place.0) (subst (λ (a : ℕ). IsDataWord o w.section a) (sym place.1) at)) right.place))))
 
+  -- the number in its place
+  pub step_number : (k : ℕ) (r : Reloc) (x : Point) (c : Carrier) (q : Reloc) → IsCarrier f carriers x c → x.reloc ≡ Some k → StandsFor o is.form.lists k r (kind_on c.instr r.kind) c.at q
+      → addend (bytes_of h q.section) q ≡ cond (is_jump r.kind) (zero_addend r) (new_addend o r)
+  step_number k r x c q carrier point stands =
+      let s = of_step_is k r x c q carrier point stands in
+      let no_word : is_word q.kind ≡ false = ap is_word stands.kind ∙ fits_no_word (kind_on c.instr r.kind) true c.instr s.carried.fits in
+      let section : q.section ≡ x.section = stands.section ∙ s.section in
+      instr_addend (bytes_of h q.section) q no_word
+      ∙ (ap number_in (ap (λ (j : ℕ). decoded_at (bytes_of h j) q.offset 0) section ∙ (ap (λ (a : ℕ). decoded_at (bytes_of h x.section) a 0) stands.offset ∙ s.carried.there)) ∙ s.carried.number)
+
   pub each_answers : (q : Reloc) → IsNewReloc o f p carriers is.form.lists q → (k : ℕ) × (r : Reloc) × (slice_get o.relocs k ≡ Some r) × SameSense r q × Answers o h (new_places is) r q
   each_answers q (of_data k r s at other stands) = (k, r, stands.there, record { jump = ap is_jump stands.kind; kind = λ n. stands.kind }, data_word o h f p carriers is k r s q at other stands)
   each_answers q (of_step k r x c carrier point stands) =
       let s = of_step_is k r x c q carrier point stands in
       let sense : is_jump q.kind ≡ is_jump r.kind = ap is_jump stands.kind ∙ s.step.sense in
-      let no_word : is_word q.kind ≡ false = ap is_word stands.kind ∙ fits_no_word (kind_on c.instr r.kind) true c.instr s.carried.fits in
-      let section : q.section ≡ x.section = stands.section ∙ s.section in
-      let number : addend (bytes_of h q.section) q ≡ cond (is_jump r.kind) (zero_addend r) (new_addend o r) =
-      instr_addend (bytes_of h q.section) q no_word
-      ∙ (ap number_in (ap (λ (j : ℕ). decoded_at (bytes_of h j) q.offset 0) section ∙ (ap (λ (a : ℕ). decoded_at (bytes_of h x.section) a 0) stands.offset ∙ s.carried.there)) ∙ s.carried.number) in
-      (
+      let number = step_number k r x c q carrier point stands in (
         k,
         r,
         stands.there,
@@ -167,16 +172,15 @@ module _ (o h : ObjectParts) (f : FlowParts) (p : UnitPlaces) (carriers : List (
       let kind = of_word_kind k r w listed point stands.there in
       let place = reloc_at_is o w.section w.offset k r (sym ((is.flow.words w).0 listed).reloc ∙ point) stands.there in
       let none = word_no_jump r.kind kind in
-      let number : word_at (bytes_of h w.section) y ≡ new_addend o r = is.form.words w y word ∙ ap (word_number o w) (ap (reloc_of o) point ∙ stands.there) in
-      (
+      let number : word_at (bytes_of h w.section) y ≡ new_addend o r = is.form.words w y word ∙ ap (word_number o w) (ap (reloc_of o) point ∙ stands.there) in (
         k,
         r,
         stands.there,
         record { jump = ap is_jump stands.kind; kind = λ n. stands.kind },
         answered o h f p carriers is k r r.kind y q stands (inl none) (ap is_jump stands.kind)
-        (word_addend (bytes_of h q.section) q (ap is_word stands.kind ∙ kind)
-        ∙ (ap (λ (j : ℕ). word_at (bytes_of h j) q.offset) (stands.section ∙ place.0) ∙ (ap (word_at (bytes_of h w.section)) stands.offset
-        ∙ (number ∙ sym (ap (λ (b : Bool). cond b (zero_addend r) (new_addend o r)) none))))),
+            (word_addend (bytes_of h q.section) q (ap is_word stands.kind ∙ kind)
+            ∙ (ap (λ (j : ℕ). word_at (bytes_of h j) q.offset) (stands.section ∙ place.0) ∙ (ap (word_at (bytes_of h w.section)) stands.offset
+            ∙ (number ∙ sym (ap (λ (b : Bool). cond b (zero_addend r) (new_addend o r)) none))))),
       )
 
   -- a code section of the object is one of its form
@@ -199,9 +203,3 @@ module _ (o h : ObjectParts) (f : FlowParts) (p : UnitPlaces) (carriers : List (
         subst (λ (k : RelocKind). 2 ^ 20 ≤ reach k) (sym stands.kind) (long_reach r.kind c.instr (sym (ap is_jump stands.kind) ∙ jump) s.carried.fits),
         ap (λ (n : ℕ). n % 2) stands.offset ∙ start_even (bytes_of h x.section) s.unit.start (code_end s.unit) c.at even s.step.start,
       )
-
-pub relocs_stand : RelocsStand
-relocs_stand o h f p carriers is = record {
-  each = λ n q there. each_answers o h f p carriers is q ((is.form.tables.relocs.exact q).0 (contains_at h.relocs n q there));
-  long = λ n q there. each_long o h f p carriers is q ((is.form.tables.relocs.exact q).0 (contains_at h.relocs n q there));
-}

@@ -39,16 +39,16 @@ use Rattle.sim_answers.proofs.PointPlaces.{entry_point, point_placed, points_hav
 use Rattle.sim_answers.proofs.SectionsStay.{sections_stay}
 
 -- a symbol that moves keeps all but its value and size
-record Keeps (s t : Symbol) : Type 0 where
-  name : t.name ≡ s.name
-  bind : t.bind ≡ s.bind
-  kind : t.kind ≡ s.kind
-  home : t.home ≡ s.home
+pub record Keeps (s t : Symbol) : Type 0 where
+  pub name : t.name ≡ s.name
+  pub bind : t.bind ≡ s.bind
+  pub kind : t.kind ≡ s.kind
+  pub home : t.home ≡ s.home
 
 keeps_itself : (s : Symbol) → Keeps s s
 keeps_itself s = record { name = refl; bind = refl; kind = refl; home = refl }
 
-moved_keeps : (o h : ObjectParts) (items : List Item) (s : Symbol) (home : Home) → Keeps s (moved_in o h items s home)
+pub moved_keeps : (o h : ObjectParts) (items : List Item) (s : Symbol) (home : Home) → Keeps s (moved_in o h items s home)
 moved_keeps o h items s homes.Undefined = keeps_itself s
 moved_keeps o h items s homes.Absolute = keeps_itself s
 moved_keeps o h items s (homes.Section j) = go (is_in_code o s.home) (new_place items j (even s.value)) (size_of (slice_get h.sections j))
@@ -134,7 +134,7 @@ front_local o h l x c =
       | inr a ↦ let m = contains_map (target_symbol o l.items) l.targets x a in sym (ap is_local m.2)
     ]
 
-back_shared : (o h : ObjectParts) (l : Lists) (x : Symbol) → Contains (back o h l) x → is_local x ≡ false
+pub back_shared : (o h : ObjectParts) (l : Lists) (x : Symbol) → Contains (back o h l) x → is_local x ≡ false
 back_shared o h l x c =
     let m = contains_map (moved o h l.items) (filter is_shared o.symbols) x c in
     let t = contains_filter is_shared o.symbols m.0 m.1 in

@@ -1,6 +1,6 @@
 //! Laws of hardened forms and the objects that they stand for. The functions do nothing: their contracts are the laws.
 
-ghost use Rattle.sim_answers.specs.Forms.{DataIsAnswered, FlowsAreAccepted, PointsHavePlaces, RelocsStand, SectionsStay, SymbolsStay};
+ghost use Rattle.sim_answers.specs.Forms.{DataIsAnswered, FlowsAreAccepted, FormsAnswer, PointsHavePlaces, RelocsAreRight, SectionsStay, SymbolsStay, UnitsStand};
 
 /// What an object with a flow makes of a symbol of code has bit 0 set, unless it is a branch.
 pub fn flows_are_accepted()
@@ -27,7 +27,18 @@ pub fn data_answers()
     ensures { DataIsAnswered }
 {}
 
-/// Each relocation of a hardened form answers one of its object, and is of no short branch.
-pub fn relocations_stand()
-    ensures { RelocsStand }
+/// Each relocation of a hardened form is right, answers one of its object, and is of no short branch.
+pub fn relocations_answer()
+    ensures { RelocsAreRight }
+{}
+
+/// Units run through ranges of code, and each of their instructions stands at an instruction start; words among code are
+/// words of data; and each point went to its unit.
+pub fn units_stand()
+    ensures { UnitsStand }
+{}
+
+/// Lists of objects and of their hardened forms have all that the laws on their images ask.
+pub fn forms_answer()
+    ensures { FormsAnswer }
 {}

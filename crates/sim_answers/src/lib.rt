@@ -3,4 +3,7 @@
 
 mod laws;
 
-pub use laws::{data_answers, flows_are_accepted, points_have_places, relocations_stand, sections_stay, symbols_stay};
+pub use laws::{
+    data_answers, flows_are_accepted, forms_answer, points_have_places, relocations_answer,
+    sections_stay, symbols_stay, units_stand,
+};
