@@ -14,3 +14,4 @@ pub mod CodeRuns
 pub mod RightRelocs
 pub mod UnitsStand
 pub mod FormsAnswer
+pub mod CallUnits

@@ -84,8 +84,8 @@ own_target_point o f flow x c has k r s at right names home none =
     let n = element_at flow.nodes q.0 (subst (λ (m : ℕ). q.0 < m) flow.count (slice_get_within f.points q.0 x q.1)) in
     let is = flow.points q.0 n.0 x n.1 q.1 in
     let reached = (flow.reached n.0).0 (contains_at flow.nodes q.0 n.0 n.1) in
-    let here : reloc_at o n.0.section n.0.offset ≡ Some k = sym is.reloc ∙ at in
-    let own : s.home ≡ homes.Section n.0.section = home ∙ ap (λ (j : ℕ). homes.Section j) is.section in
+    let here : reloc_at o n.0.section n.0.offset ≡ Some k = subst (λ (v : Option ℕ). v ≡ Some k) is.reloc at in
+    let own : s.home ≡ homes.Section n.0.section = subst (λ (j : ℕ). s.home ≡ homes.Section j) is.section home in
     let aims : Aims o n.0 x.instr (target_of o r s) = record {
       has = has;
       aim = elim (cases_Bool (s.bind == local)) [

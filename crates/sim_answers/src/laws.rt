@@ -1,5 +1,6 @@
 //! Laws of hardened forms and the objects that they stand for. The functions do nothing: their contracts are the laws.
 
+ghost use Rattle.sim_answers.specs.CallUnits.{CallRowHasUnits};
 ghost use Rattle.sim_answers.specs.Forms.{DataIsAnswered, FlowsAreAccepted, FormsAnswer, PointsHavePlaces, RelocsAreRight, SectionsStay, SymbolsStay, UnitsStand};
 
 /// What an object with a flow makes of a symbol of code has bit 0 set, unless it is a branch.
@@ -22,7 +23,7 @@ pub fn symbols_stay()
     ensures { SymbolsStay }
 {}
 
-/// What the relocations of a hardened form in data are.
+/// Each word that is linked in data answers the one at its offset, and no other byte of data differs.
 pub fn data_answers()
     ensures { DataIsAnswered }
 {}
@@ -41,4 +42,9 @@ pub fn units_stand()
 /// Lists of objects and of their hardened forms have all that the laws on their images ask.
 pub fn forms_answer()
     ensures { FormsAnswer }
+{}
+
+/// The form of a call with a relocation on each of its branches has the units that these laws ask for.
+pub fn call_row_has_units()
+    ensures { CallRowHasUnits }
 {}

@@ -4,6 +4,6 @@
 mod laws;
 
 pub use laws::{
-    data_answers, flows_are_accepted, forms_answer, points_have_places, relocations_answer,
-    sections_stay, symbols_stay, units_stand,
+    call_row_has_units, data_answers, flows_are_accepted, forms_answer, points_have_places,
+    relocations_answer, sections_stay, symbols_stay, units_stand,
 };
