@@ -96,7 +96,7 @@ own_target_point o f flow x c has k r s at right names home none =
     flow.no_fault refusal.IntoMiddle n.0.section n.0.offset
     (no_start n.0.section (target_of o r s) (by_instr n.0 x.instr (record { reached = reached; found = is.instr }) aims refl refl refl)
     (λ start. none (let p = reached_point o f flow n.0.section (target_of o r s) (led_away n.0 (node_at n.0.section (target_of o r s)) reached (away x.instr (target_of o r s) is.instr aims refl start)) in
-    (p.0, p.1, p.2 ∙ sym is.section, p.3))) refl)
+    (p.0, p.1, subst (λ (j : ℕ). p.0.section ≡ j) (sym is.section) p.2, p.3))) refl)
 
 -- the word that a point loads is of its section
 pub point_word : (o : ObjectParts) (f : FlowParts) → IsFlow o f → (x : Point) → Contains f.points x → (n : ℕ) (w : PoolWord) → x.word ≡ Some n → slice_get f.words n ≡ Some w → w.section ≡ x.section
