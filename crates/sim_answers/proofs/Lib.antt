@@ -1,0 +1,17 @@
+pub mod Accepted
+pub mod Pairs
+pub mod SectionsStay
+pub mod PointPlaces
+pub mod Numbers
+pub mod SymbolsStay
+pub mod Placed
+pub mod Answered
+pub mod DataAnswered
+pub mod RelocsStand
+pub mod Marks
+pub mod CodeWords
+pub mod CodeRuns
+pub mod RightRelocs
+pub mod UnitsStand
+pub mod FormsAnswer
+pub mod CallUnits
