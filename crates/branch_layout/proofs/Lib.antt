@@ -7,3 +7,5 @@ pub mod PutFacts
 pub mod WithinFacts
 pub mod ReachFacts
 pub mod FaultFacts
+pub mod ZeroFacts
+pub mod CodeFacts

@@ -2,6 +2,7 @@ pub mod Copies
 pub mod Widths
 pub mod Placings
 pub mod Goals
+pub mod Codes
 pub mod Given
 pub mod Faults
 pub mod Layouts

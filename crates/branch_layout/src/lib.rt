@@ -3,11 +3,13 @@
 
 mod aiming;
 mod copies;
+mod laws;
 mod laying;
 mod reach;
 mod standing;
 mod stretches;
 
+pub use laws::numbers_have_codes;
 pub use laying::places;
 pub use standing::Placing;
 pub use stretches::Stretch;
