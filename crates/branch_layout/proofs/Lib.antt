@@ -1,0 +1,11 @@
+pub mod Lists
+pub mod CopyFacts
+pub mod Ahead
+pub mod NextFacts
+pub mod StandingFacts
+pub mod PutFacts
+pub mod WithinFacts
+pub mod ReachFacts
+pub mod FaultFacts
+pub mod ZeroFacts
+pub mod CodeFacts

@@ -1,0 +1,15 @@
+//! Where the sequences of a hardened object stand: the long layout.
+#![tactic(auto)]
+
+mod aiming;
+mod copies;
+mod laws;
+mod laying;
+mod reach;
+mod standing;
+mod stretches;
+
+pub use laws::numbers_have_codes;
+pub use laying::places;
+pub use standing::Placing;
+pub use stretches::Stretch;
