@@ -7,3 +7,4 @@ pub mod WordFacts
 pub mod MarkFacts
 pub mod MappingFacts
 pub mod RowBytes
+pub mod MoveFacts

@@ -5,6 +5,7 @@ mod lasting;
 mod map_section;
 mod mapping;
 mod marks;
+mod moves;
 mod rows;
 mod target_symbols;
 mod targets;
