@@ -1,0 +1,16 @@
+pub mod Places
+pub mod Items
+pub mod Standing
+pub mod Rows
+pub mod Turns
+pub mod Sections
+pub mod MappingSymbols
+pub mod Symbols
+pub mod Carriers
+pub mod Relocs
+pub mod Code
+pub mod HardenedForms
+pub mod FirstRow
+pub mod CallRow
+pub mod TargetRow
+pub mod OneForm
