@@ -1,0 +1,15 @@
+pub mod Charts
+pub mod Boundaries
+pub mod Words
+pub mod Alike
+pub mod Twins
+pub mod Changes
+pub mod Flows
+pub mod Addresses
+pub mod Linked
+pub mod Simulates
+pub mod Maps
+pub mod Codes
+pub mod Example
+pub mod Empty
+pub mod Starts

@@ -1,0 +1,5 @@
+pub mod Numbers
+pub mod Living
+pub mod Continuing
+pub mod Meeting
+pub mod Units

@@ -1,0 +1,4 @@
+//! An ordinary step is alike in both runs: what a chart must give of a point for that.
+#![tactic(auto)]
+
+pub mod laws;
