@@ -1,0 +1,14 @@
+pub mod ShortLists
+pub mod ChartedWorks
+pub mod EmptyLoops
+pub mod Groups
+pub mod AddsDone
+pub mod FirstUnits
+pub mod FirstFlow
+pub mod FirstAccepted
+pub mod FirstPaired
+pub mod CopyRefused
+pub mod Bounded
+pub mod FlowPoints
+pub mod Spared
+pub mod Living

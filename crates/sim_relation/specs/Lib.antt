@@ -1,0 +1,11 @@
+pub mod Accepted
+pub mod Sequences
+pub mod Standing
+pub mod Doing
+pub mod Pairs
+pub mod Charted
+pub mod Spared
+pub mod Living
+pub mod FirstRow
+pub mod AddsRow
+pub mod EmptyLoop
