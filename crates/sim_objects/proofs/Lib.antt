@@ -1,0 +1,4 @@
+pub mod Parts
+pub mod Apart
+pub mod Points
+pub mod Exits

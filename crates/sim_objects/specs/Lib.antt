@@ -1,0 +1,5 @@
+pub mod Lists
+pub mod Charts
+pub mod Apart
+pub mod Standing
+pub mod Exits
