@@ -2,3 +2,4 @@ pub mod Parts
 pub mod Apart
 pub mod Points
 pub mod Exits
+pub mod Living

@@ -53,7 +53,7 @@ one_number objects at i x _ _ _ _ _ _ e (linked l y is file) (linked m z other p
     ap (λ (k : Link). renumbered (value_of (all_placed objects at) k) x) (same_link objects at l m is other (file ∙ sym place) (same_Some l.number m.number e))
 
 module _ (F c K : ℕ) (pairs : List (Pairing F c K)) (at : Placement) where
-  flow_point : (i n : ℕ) (q : Pairing F c K) (x : FlowPoint) (p : Point) → slice_get q.pair.flow.points n ≡ Some x → IsCharted F c K pairs at i q n x p
+  pub flow_point : (i n : ℕ) (q : Pairing F c K) (x : FlowPoint) (p : Point) → slice_get q.pair.flow.points n ≡ Some x → IsCharted F c K pairs at i q n x p
       → IsPointOf q.pair.flow (boundaries K) (address_in (plains pairs) at i q.pair.flow) n x p
   flow_point i n q x p there is =
       let d = decodes q.plain q.pair.flow q.pair.accepted.flow n x there in

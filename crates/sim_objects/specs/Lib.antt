@@ -3,3 +3,4 @@ pub mod Charts
 pub mod Apart
 pub mod Standing
 pub mod Exits
+pub mod Living

@@ -2,6 +2,7 @@
 
 ghost use Rattle.sim_objects.specs.Apart.{PointsEndApart, PointsLieLow};
 ghost use Rattle.sim_objects.specs.Exits.{NothingAtExit};
+ghost use Rattle.sim_objects.specs.Living.{PointsLive, PointsSpare};
 ghost use Rattle.sim_objects.specs.Standing.{ChartsHavePoints, PointsStand};
 
 /// No two points of a chart end at one address, so what stands for a return address is determined.
@@ -27,4 +28,14 @@ pub fn points_stand()
 /// Nothing is fetched at the end of the whole call.
 pub fn nothing_at_exit()
     ensures { NothingAtExit }
+{}
+
+/// What is live at the points is closed as a chart asks.
+pub fn points_live()
+    ensures { PointsLive }
+{}
+
+/// Their units lose nothing but what is dead behind them.
+pub fn points_spare()
+    ensures { PointsSpare }
 {}
