@@ -3,3 +3,4 @@ pub mod Apart
 pub mod Points
 pub mod Exits
 pub mod Living
+pub mod Following

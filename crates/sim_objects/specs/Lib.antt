@@ -4,3 +4,4 @@ pub mod Apart
 pub mod Standing
 pub mod Exits
 pub mod Living
+pub mod Following

@@ -2,6 +2,7 @@
 
 ghost use Rattle.sim_objects.specs.Apart.{PointsEndApart, PointsLieLow};
 ghost use Rattle.sim_objects.specs.Exits.{NothingAtExit};
+ghost use Rattle.sim_objects.specs.Following.{UnitsFollow};
 ghost use Rattle.sim_objects.specs.Living.{PointsLive, PointsSpare};
 ghost use Rattle.sim_objects.specs.Standing.{ChartsHavePoints, PointsStand};
 
@@ -38,4 +39,9 @@ pub fn points_live()
 /// Their units lose nothing but what is dead behind them.
 pub fn points_spare()
     ensures { PointsSpare }
+{}
+
+/// A point's next point stands behind it, and its unit where the point's ends.
+pub fn units_follow()
+    ensures { UnitsFollow }
 {}
