@@ -4,3 +4,4 @@ pub mod Points
 pub mod Exits
 pub mod Living
 pub mod Following
+pub mod Working

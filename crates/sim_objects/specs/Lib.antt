@@ -5,3 +5,4 @@ pub mod Standing
 pub mod Exits
 pub mod Living
 pub mod Following
+pub mod Working

@@ -5,6 +5,7 @@ ghost use Rattle.sim_objects.specs.Exits.{NothingAtExit};
 ghost use Rattle.sim_objects.specs.Following.{UnitsFollow};
 ghost use Rattle.sim_objects.specs.Living.{PointsLive, PointsSpare};
 ghost use Rattle.sim_objects.specs.Standing.{ChartsHavePoints, PointsStand};
+ghost use Rattle.sim_objects.specs.Working.{UnitsWork};
 
 /// No two points of a chart end at one address, so what stands for a return address is determined.
 pub fn points_end_apart()
@@ -44,4 +45,9 @@ pub fn points_spare()
 /// A point's next point stands behind it, and its unit where the point's ends.
 pub fn units_follow()
     ensures { UnitsFollow }
+{}
+
+/// A unit works where it stands in the hardened image, linked.
+pub fn units_work()
+    ensures { UnitsWork }
 {}
