@@ -1,0 +1,7 @@
+pub mod Parts
+pub mod Apart
+pub mod Points
+pub mod Exits
+pub mod Living
+pub mod Following
+pub mod Working

@@ -1,0 +1,53 @@
+//! Laws of the charts of paired objects. The functions do nothing: their contracts are the laws.
+
+ghost use Rattle.sim_objects.specs.Apart.{PointsEndApart, PointsLieLow};
+ghost use Rattle.sim_objects.specs.Exits.{NothingAtExit};
+ghost use Rattle.sim_objects.specs.Following.{UnitsFollow};
+ghost use Rattle.sim_objects.specs.Living.{PointsLive, PointsSpare};
+ghost use Rattle.sim_objects.specs.Standing.{ChartsHavePoints, PointsStand};
+ghost use Rattle.sim_objects.specs.Working.{UnitsWork};
+
+/// No two points of a chart end at one address, so what stands for a return address is determined.
+pub fn points_end_apart()
+    ensures { PointsEndApart }
+{}
+
+/// Points and units lie below the end of images.
+pub fn points_lie_low()
+    ensures { PointsLieLow }
+{}
+
+/// The chart has the points of each object's flow.
+pub fn charts_have_points()
+    ensures { ChartsHavePoints }
+{}
+
+/// The instruction of each point stands in the plain image.
+pub fn points_stand()
+    ensures { PointsStand }
+{}
+
+/// Nothing is fetched at the end of the whole call.
+pub fn nothing_at_exit()
+    ensures { NothingAtExit }
+{}
+
+/// What is live at the points is closed as a chart asks.
+pub fn points_live()
+    ensures { PointsLive }
+{}
+
+/// Their units lose nothing but what is dead behind them.
+pub fn points_spare()
+    ensures { PointsSpare }
+{}
+
+/// A point's next point stands behind it, and its unit where the point's ends.
+pub fn units_follow()
+    ensures { UnitsFollow }
+{}
+
+/// A unit works where it stands in the hardened image, linked.
+pub fn units_work()
+    ensures { UnitsWork }
+{}

@@ -1,0 +1,4 @@
+//! From paired objects to their images: the chart of two lists, and what holds of its points.
+#![tactic(auto)]
+
+pub mod laws;
