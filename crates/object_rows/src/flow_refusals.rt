@@ -1,9 +1,9 @@
 //! Why objects have no flow.
 
-use crate::objects::{Mark, Row, halfwords, halves_of, object_of, sample};
 use elf_model::RelocKind::*;
 use elf_model::{Deny, Home, Limit, Object, Refusal, Spot, within};
 use flow_recover::recover;
+use sample_objects::{Mark, Row, halfwords, object_of, sample};
 use std::alloc::{AllocError, Global};
 use std::process::Abort;
 
@@ -110,6 +110,15 @@ const FALLS_OFF: [Case; 7] = [
     // In the lower section, though a function of another falls off earlier.
     ("2005 2005 2005", &[IN_INIT], &[], (0, 4)),
 ];
+
+// The halfwords of a text, each in hexadecimal digits, with a blank between.
+fn halves_of(rt: &impl Abort, alloc: Global, text: &str) -> Result<Vec<u16>, AllocError> {
+    let mut halves = Vec::new(alloc);
+    for word in text.split(' ') {
+        halves.push(u16::from_str_radix(word, 16).expect(rt, "a halfword"))?;
+    }
+    Ok(halves)
+}
 
 /// Refused instructions at their first place; the second is an IT in an IT block.
 const INSTRUCTIONS: [(&str, Refusal, u32); 5] = [

@@ -1,10 +1,10 @@
 //! Flows of objects.
 
-use crate::objects::{Mark, Row, sample};
 use code_ranges::Range;
 use elf_model::RelocKind::*;
 use elf_model::{Home, Limit, within};
 use flow_recover::{Flow, Point, recover};
+use sample_objects::{Mark, Row, sample};
 use std::alloc::{AllocError, Global};
 use std::process::Abort;
 use thumb_instr::{Cond, Instr, Jump, Move, MoveOp, Operand, Reg, same};

@@ -1,4 +1,4 @@
-//! Rows of calls on objects, flows, links and lists, each with the answer that it must have.
+//! Rows of calls on objects, flows and lists, each with the answer that it must have.
 #![tactic(auto)]
 
 #[cfg(test)]
@@ -10,10 +10,6 @@ mod generated;
 #[cfg(test)]
 mod linked;
 #[cfg(test)]
-mod links;
-#[cfg(test)]
 mod lives;
-#[cfg(test)]
-mod objects;
 #[cfg(test)]
 mod ranges;

@@ -4,11 +4,11 @@ ghost use Rattle.std.specs.Prelude.{◌≡◌, ◌<◌, ℕ, All, IsTrue, length
 ghost use Rattle.flow_recover.specs.declared.flows.Point.{Point};
 ghost use Rattle.liveness.specs.Paths.{Leads, NamesPoints};
 
-use crate::objects::{Row, halfwords, object_of};
 use bitflags::Flags;
 use elf_model::{Deny, Home, Limit, Object, Refusal, RelocKind, Spot, within};
 use flow_recover::{Exit, Flow, Point, recover};
 use liveness::{Boundary, Live, live};
+use sample_objects::{Row, halfwords, object_of};
 use std::alloc::{AllocError, Global};
 use std::process::Abort;
 use thumb_instr::RegSet;

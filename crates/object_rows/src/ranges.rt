@@ -1,8 +1,8 @@
 //! Ranges of code and data.
 
-use crate::objects::{Row, object_of, section};
 use code_ranges::{Range, code_ranges};
 use elf_model::{Deny, Home, Limit, Object, Refusal, Spot, within};
+use sample_objects::{Row, object_of, section};
 use std::alloc::{AllocError, Global};
 use std::process::Abort;
 

@@ -3,9 +3,9 @@
 ghost use Rattle.std.specs.Prelude.{IsTrue};
 ghost use Rattle.thumb_table.specs.Layouts.{IsPlacement};
 
-use crate::objects::{Row, object_of, section};
 use elf_model::{Deny, Home, Limit, Object, Refusal, Spot, within};
 use flat_link::link;
+use sample_objects::{Row, object_of, section};
 use std::alloc::{AllocError, Global};
 use std::process::Abort;
 use thumb_table::{Image, Part, Placement};

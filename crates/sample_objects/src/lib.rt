@@ -1,17 +1,17 @@
-//! Objects of sections, symbols and relocations.
+//! Objects of sections, symbols and relocations, for the rows of tests.
+#![tactic(auto)]
 
 use elf_model::{Bytes, Home, Name, Object, Reloc, RelocKind, Section, Symbol, object};
 use std::alloc::{AllocError, Global};
-use std::process::Abort;
 
 /// A symbol's name, value, binding, type and home.
-pub(crate) type Row = (&'static [u8], u32, u8, u8, Home);
+pub type Row = (&'static [u8], u32, u8, u8, Home);
 
 /// A relocation's section, offset, kind and symbol.
-pub(crate) type Mark = (u32, u32, RelocKind, u32);
+pub type Mark = (u32, u32, RelocKind, u32);
 
 /// A section with contents.
-pub(crate) fn section(
+pub fn section(
     alloc: Global,
     text: &[u8],
     flags: u32,
@@ -29,21 +29,8 @@ pub(crate) fn section(
     })
 }
 
-/// The halfwords of a text, each in hexadecimal digits, with a blank between.
-pub(crate) fn halves_of(
-    rt: &impl Abort,
-    alloc: Global,
-    text: &str,
-) -> Result<Vec<u16>, AllocError> {
-    let mut halves = Vec::new(alloc);
-    for word in text.split(' ') {
-        halves.push(u16::from_str_radix(word, 16).expect(rt, "a halfword"))?;
-    }
-    Ok(halves)
-}
-
 /// A section of halfwords.
-pub(crate) fn halfwords(
+pub fn halfwords(
     alloc: Global,
     text: &[u8],
     flags: u32,
@@ -57,7 +44,7 @@ pub(crate) fn halfwords(
 }
 
 /// The object of these sections, symbols and relocations.
-pub(crate) fn object_of(
+pub fn object_of(
     alloc: Global,
     sections: Vec<Section>,
     rows: &[Row],
@@ -90,7 +77,7 @@ pub(crate) fn object_of(
 /// `.text` with this code, `.init` with a return and a NOP, two words of data, 2 and 0, and a comment. The
 /// symbols 0 to 4 are the mapping symbols of the code, one of the data, an absolute one, and a function at
 /// the beginning of `.text`; behind them come others.
-pub(crate) fn sample(
+pub fn sample(
     alloc: Global,
     code: &[u16],
     rows: &[Row],
