@@ -1,19 +1,13 @@
 -- Where units go on in a chart of lists.
-use Rattle.std.specs.Prelude.{◌≡◌, ℕ, ◌+◌, List, Some, slice_get, refl}
-use Rattle.std.proofs.Common.{arith, ap, sym, ◌∙◌, subst}
-use Rattle.std.proofs.lemmas.Option.{same_Some}
+use Rattle.std.specs.Prelude.{◌≡◌, ℕ, ◌+◌, List, Some}
+use Rattle.std.proofs.Common.{arith, ap, sym, ◌∙◌}
 use Rattle.thumb_table.specs.declared.placements.Placement.{Placement}
-use Rattle.flow_recover.specs.declared.flows.Point.{Point as FlowPoint}
 use Rattle.flow_recover.specs.declared.flows.Exit.{Exit}
-use Rattle.flow_recover.specs.declared.flows.Exit.TheVariants.{Call}
-use Rattle.flow_recover.specs.Points.{IsPointAt as FlowPointAt, end_of}
 use Rattle.flow_recover.proofs.FlowPoints.{next_there}
-use Rattle.hardened_form.specs.Places.{UnitPlace}
 use Rattle.sim_charts.specs.Charts.{Chart, Point}
-use Rattle.sim_flows.specs.Points.{exit_at}
 use Rattle.sim_flows.proofs.Living.{next_leads, call_is}
 use Rattle.sim_objects.specs.Lists.{Pairing, plains, hards}
-use Rattle.sim_objects.specs.Charts.{start_at, point_at, address_in, width_of, back_of, IsCharted, IsPointAt, IsChartOf}
+use Rattle.sim_objects.specs.Charts.{start_at, point_at, address_in, width_of, back_of, IsPointAt, IsChartOf}
 use Rattle.sim_objects.specs.Following.{GoesOn, UnitsFollow}
 
 module _ (F c K : ℕ) (pairs : List (Pairing F c K)) (at : Placement) (chart : Chart) (is : IsChartOf F c K pairs at chart) where

@@ -5,3 +5,4 @@ pub mod Exits
 pub mod Living
 pub mod Following
 pub mod Working
+pub mod Linking

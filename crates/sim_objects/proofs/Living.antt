@@ -1,7 +1,6 @@
 -- What is live at the points of a chart of lists, and what their units spare.
-use Rattle.std.specs.Prelude.{◌≡◌, ◌≤◌, ◌⊎◌, ℕ, ◌&&◌, ◌||◌, not, Bool, true, false, List, Option, Some, None, slice_get, refl}
-use Rattle.std.proofs.Common.{ap, sym, ◌∙◌, subst, inl, inr}
-use Rattle.std.proofs.lemmas.Option.{same_Some}
+use Rattle.std.specs.Prelude.{◌≡◌, ℕ, ◌&&◌, ◌||◌, not, Bool, true, List, Some, slice_get, refl}
+use Rattle.std.proofs.Common.{ap, sym, ◌∙◌, inl, inr}
 use Rattle.thumb_instr.specs.declared.instructions.Instr.{Instr}
 use Rattle.thumb_instr.specs.Numbers.{renumbered}
 use Rattle.thumb_instr.specs.Sets.{reads_of, writes_of, sets_flags_of}
@@ -14,19 +13,18 @@ use Rattle.liveness.specs.Paths as paths
 use Rattle.liveness.specs.Paths.{IsLiveBefore}
 use Rattle.sim_charts.specs.Charts as charts
 use Rattle.sim_charts.specs.Charts.{Chart, Point, sets_of}
-use Rattle.sim_charts.specs.Boundaries.{boundary, uses_at}
+use Rattle.sim_charts.specs.Boundaries.{boundary}
 use Rattle.sim_charts.specs.Flows.{Lives, Spares}
-use Rattle.sim_flows.specs.Points.{exit_at, next_at}
+use Rattle.sim_flows.specs.Points.{exit_at}
 use Rattle.sim_flows.proofs.Living.{next_leads, branch_leads, some_is}
 use Rattle.sim_flows.proofs.Numbers.{same_reads, same_writes, same_flags, reads_same, writes_same, condition_same}
 use Rattle.sim_relation.specs.Accepted.{boundaries}
-use Rattle.sim_relation.specs.Spared.{way_by, Follows}
-use Rattle.sim_relation.specs.Living.{IsPointOf}
+use Rattle.sim_relation.specs.Spared.{way_by}
 use Rattle.sim_relation.specs.Charted.{Known}
 use Rattle.sim_relation.proofs.Living.{accepted_live}
 use Rattle.sim_relation.proofs.Spared.{pairs_spare}
 use Rattle.sim_objects.specs.Lists.{Pairing, plains}
-use Rattle.sim_objects.specs.Charts.{address_in, IsCharted, IsPointAt, IsChartOf}
+use Rattle.sim_objects.specs.Charts.{address_in, IsCharted, IsChartOf}
 use Rattle.sim_objects.specs.Living.{PointsLive, PointsSpare}
 use Rattle.sim_objects.proofs.Parts.{plain_cond}
 use Rattle.sim_objects.proofs.Points.{flow_point}

@@ -1,15 +1,12 @@
 -- The units of a chart of lists work where they stand in the hardened image, linked.
-use Rattle.std.specs.Prelude.{◌≡◌, ◌≤◌, ℕ, ◌+◌, ◌%◌, ◌&&◌, Bool, List, Option, Some, None, slice_get, refl}
+use Rattle.std.specs.Prelude.{◌≡◌, ℕ, ◌+◌, ◌&&◌, Option, Some, None, refl}
 use Rattle.std.proofs.Common.{arith, ap, sym, ◌∙◌, subst}
 use Rattle.thumb_instr.specs.declared.instructions.Instr.{Instr}
 use Rattle.thumb_instr.specs.declared.instructions.Instr.TheVariants.{Half}
 use Rattle.thumb_instr.specs.declared.conditions.Cond.{Cond}
 use Rattle.thumb_instr.specs.Numbers.{renumbered}
-use Rattle.thumb_table.specs.Parts.{CodeBytes}
-use Rattle.thumb_table.specs.States.{Core, Outcome}
+use Rattle.thumb_table.specs.States.{Core}
 use Rattle.thumb_table.specs.Conditions.{holds}
-use Rattle.liveness.specs.Paths.{branch_cond}
-use Rattle.hardened_form.specs.Symbols.{size_of}
 use Rattle.seq_core.specs.Does.{Task, Works}
 use Rattle.seq_core.specs.Meanings.{Ends, meant}
 use Rattle.sim_charts.specs.Charts as charts

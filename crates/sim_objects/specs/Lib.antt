@@ -6,3 +6,4 @@ pub mod Exits
 pub mod Living
 pub mod Following
 pub mod Working
+pub mod Linking

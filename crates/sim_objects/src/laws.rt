@@ -3,6 +3,7 @@
 ghost use Rattle.sim_objects.specs.Apart.{PointsEndApart, PointsLieLow};
 ghost use Rattle.sim_objects.specs.Exits.{NothingAtExit};
 ghost use Rattle.sim_objects.specs.Following.{UnitsFollow};
+ghost use Rattle.sim_objects.specs.Linking.{ListsAreLinked};
 ghost use Rattle.sim_objects.specs.Living.{PointsLive, PointsSpare};
 ghost use Rattle.sim_objects.specs.Standing.{ChartsHavePoints, PointsStand};
 ghost use Rattle.sim_objects.specs.Working.{UnitsWork};
@@ -50,4 +51,10 @@ pub fn units_follow()
 /// A unit works where it stands in the hardened image, linked.
 pub fn units_work()
     ensures { UnitsWork }
+{}
+
+/// Where places are even, control goes on as in the chart, and units stand in the hardened image with what makes an
+/// ordinary step alike, the two images are linked unit by unit.
+pub fn lists_are_linked()
+    ensures { ListsAreLinked }
 {}
