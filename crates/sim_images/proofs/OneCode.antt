@@ -1,13 +1,12 @@
 -- Two lists of bytes that have one instruction at a place, in as many bytes, have the same bytes there.
 use Rattle.std.specs.Prelude.{◌≡◌, ◌<◌, ℕ, ◌+◌, ◌-◌, ◌*◌, ◌^◌, nat_lt, Bool, true, false, cond, List, length, get_or, drop, Option, Some, None, Ok, Err, refl}
-use Rattle.std.specs.List.{AllPass}
 use Rattle.std.proofs.Common.{arith, inl, inr, ap, sym, ◌∙◌}
 use Rattle.std.proofs.lemmas.Bool.{cases_lt, both_ways, ltb-true}
 use Rattle.std.proofs.lemmas.List.{get_or-drop, get_or_past}
 use Rattle.std.proofs.lemmas.List.Elements.{All-contains, Contains-get_or}
 use Rattle.elf_model.specs.declared.objects.RelocKind.{RelocKind}
 use Rattle.elf_model.specs.declared.objects.RelocKind.TheVariants.{Abs32, Target1, ThmCall, ThmJump24, MovwAbs, MovtAbs, ThmJump19, ThmJump11, ThmJump8, Other}
-use Rattle.elf_model.specs.Fields.{half_at}
+use Rattle.elf_model.specs.Fields.{byte_at, half_at}
 use Rattle.elf_model.specs.Ranges.{is_long, length_at}
 use Rattle.thumb_instr.specs.declared.instructions.Instr.{Instr}
 use Rattle.thumb_instr.specs.declared.instructions.Instr.TheVariants as instr
@@ -22,14 +21,10 @@ use Rattle.thumb_encode.specs.FullCodes.{full_code}
 use Rattle.thumb_encode.proofs.Standing.{half-candidate, full-candidate}
 
 abbrev pub AreBytes : List ℕ → Type 0
-AreBytes bytes = AllPass (λ n. nat_lt n 256) bytes
+AreBytes bytes = (x : ℕ) → byte_at bytes x < 2 ^ 8
 
 below : (bytes : List ℕ) → AreBytes bytes → (k : ℕ) → get_or bytes k 0 < 256
-below bytes all k =
-    elim (cases_lt k (length bytes)) [
-      | inl lt ↦ ltb-true (get_or bytes k 0) 256 (All-contains (λ n. nat_lt n 256 ≡ true) bytes (get_or bytes k 0) all (Contains-get_or bytes k 0 lt))
-      | inr past ↦ let none = get_or_past bytes k 0 past in omega arith
-    ]
+below bytes all k = all k
 
 half_is : (bytes : List ℕ) (n : ℕ) → half_at bytes n ≡ get_or bytes n 0 + 256 * get_or bytes (n + 1) 0
 half_is bytes n =

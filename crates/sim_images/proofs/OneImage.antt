@@ -61,7 +61,13 @@ width_of long = cond long 4 2
 abbrev answer : Instr → Answer
 answer i = Ok i
 
-module _ (objects : List ObjectParts) (at : Placement) (a b : Image) (sound : AreObjects objects) (all : AreBytes a.code.bytes) (too : AreBytes b.code.bytes) (is : IsImage objects at a) (also : IsImage objects at b) where
+module _ (objects : List ObjectParts) (at : Placement) (a b : Image) (sound : AreObjects objects) (is : IsImage objects at a) (also : IsImage objects at b) where
+  all : AreBytes a.code.bytes
+  all = is.code.bytes
+
+  too : AreBytes b.code.bytes
+  too = also.code.bytes
+
   -- at a relocation in code
   module _ (l : Link) (il : IsLink objects at l) (code : is_code l.part.section ≡ true) where
     section_there : slice_get l.object.sections l.reloc.section ≡ Some l.part.section
@@ -189,4 +195,4 @@ module _ (objects : List ObjectParts) (at : Placement) (a b : Image) (sound : Ar
       (is.parts ∙ sym also.parts) (is.entries ∙ sym also.entries)
 
 pub one_image : OneImage
-one_image objects at a b sound all too is also = images_same objects at a b sound all too is also
+one_image objects at a b sound is also = images_same objects at a b sound is also

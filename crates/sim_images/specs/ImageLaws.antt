@@ -28,11 +28,10 @@ pub record Here (objects : List ObjectParts) (at : Placement) (i : ℕ) (o : Obj
 abbrev pub NotBoth : Type 0
 NotBoth = (objects : List ObjectParts) (at : Placement) (image : Image) (spot : Spot) → IsImage objects at image → LinkFault objects at spot → ⊥
 
--- There is one image at most. Only as halfwords does the definition see the bytes of linked instructions.
+-- There is one image at most.
 abbrev pub OneImage : Type 0
 OneImage =
-    (objects : List ObjectParts) (at : Placement) (a b : Image) → AreObjects objects → AllPass (λ n. nat_lt n 256) a.code.bytes → AllPass (λ n. nat_lt n 256) b.code.bytes
-    → IsImage objects at a → IsImage objects at b → a ≡ b
+    (objects : List ObjectParts) (at : Placement) (a b : Image) → AreObjects objects → IsImage objects at a → IsImage objects at b → a ≡ b
 
 -- Each section of memory has its part.
 abbrev pub HasPart : Type 0

@@ -8,7 +8,7 @@ pub fn images_have_no_fault()
     ensures { NotBoth }
 {}
 
-/// A list of objects has one image at most at a placement, whose bytes of code are bytes.
+/// A list of objects has one image at most at a placement.
 pub fn objects_have_one_image()
     ensures { OneImage }
 {}

@@ -122,7 +122,7 @@ unfolding full_rows half_rows on_condition_branch
 call_in_data0 = λ h. absurd (both_ways false refl h)
 
 pub call_linked_code : IsLinkedCode call_objects call_at call_code
-call_linked_code = linked_code_is call_objects call_at call_code call_are_links refl refl (call_in_code0, tt)
+call_linked_code = linked_code_is call_objects call_at call_code call_are_links refl refl refl (call_in_code0, tt)
 
 pub call_linked_data : IsLinkedData call_objects call_at (record { base = 32832; cells = call_cells })
 call_linked_data = linked_data_is call_objects call_at call_cells call_are_links refl refl (call_in_data0, tt)

@@ -382,7 +382,7 @@ unfolding full_rows half_rows on_condition_branch
 mixed_in_data7 = λ d. mixed_written7
 
 pub mixed_linked_code : IsLinkedCode mixed_objects mixed_at mixed_code
-mixed_linked_code = linked_code_is mixed_objects mixed_at mixed_code mixed_are_links refl refl (mixed_in_code0, (mixed_in_code1, (mixed_in_code2, (mixed_in_code3, (mixed_in_code4, (mixed_in_code5, (mixed_in_code6, (mixed_in_code7, tt))))))))
+mixed_linked_code = linked_code_is mixed_objects mixed_at mixed_code mixed_are_links refl refl refl (mixed_in_code0, (mixed_in_code1, (mixed_in_code2, (mixed_in_code3, (mixed_in_code4, (mixed_in_code5, (mixed_in_code6, (mixed_in_code7, tt))))))))
 
 pub mixed_linked_data : IsLinkedData mixed_objects mixed_at (record { base = 28736; cells = mixed_cells })
 mixed_linked_data = linked_data_is mixed_objects mixed_at mixed_cells mixed_are_links refl refl (mixed_in_data0, (mixed_in_data1, (mixed_in_data2, (mixed_in_data3, (mixed_in_data4, (mixed_in_data5, (mixed_in_data6, (mixed_in_data7, tt))))))))

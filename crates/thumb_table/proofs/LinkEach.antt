@@ -1,6 +1,11 @@
 -- An example's image is right where each of its links is, one by one.
-use Rattle.std.specs.Prelude.{◌≡◌, ◌+◌, true, List, [], ◌∷◌, length, ℕ, Contains, refl, ⊤}
-use Rattle.std.proofs.Common.{inl, inr, subst}
+use Rattle.std.specs.Prelude.{◌≡◌, ◌<◌, ◌+◌, ◌^◌, nat_lt, list_all, get_or, true, List, [], ◌∷◌, length, ℕ, Contains, refl, ⊤}
+use Rattle.std.proofs.Common.{arith, inl, inr, subst}
+use Rattle.std.proofs.lemmas.Bool.{cases_lt, ltb-true}
+use Rattle.std.proofs.lemmas.List.{get_or_past}
+use Rattle.std.proofs.lemmas.List.Elements.{All-contains, Contains-get_or}
+use Rattle.std.proofs.lemmas.List.Sums.{AllPass-from_list_all}
+use Rattle.elf_model.specs.Fields.{byte_at}
 use Rattle.elf_model.specs.Objects.{ObjectParts, is_code, is_data}
 use Rattle.elf_model.proofs.Elements.{contains_cases, contains_none}
 use Rattle.mark_word.specs.Words.{Cell}
@@ -32,11 +37,19 @@ abbrev pub InData : List ObjectParts → Placement → List Cell → Link → Ty
 InData objects at cells l = is_data l.part.section ≡ true → AreWritten (all_placed objects at) cells (at.base + at.room) l
 
 module _ (objects : List ObjectParts) (at : Placement) where
+  small_bytes : (code : List ℕ) → list_all (λ b. nat_lt b 256) code ≡ true → (x : ℕ) → byte_at code x < 2 ^ 8
+  small_bytes code small x =
+      elim (cases_lt x (length code)) [
+        | inl lt ↦ ltb-true (get_or code x 0) 256 (All-contains (λ b. nat_lt b 256 ≡ true) code (get_or code x 0) (AllPass-from_list_all (λ b. nat_lt b 256) code small) (Contains-get_or code x 0 lt))
+        | inr past ↦ let none = get_or_past code x 0 past in omega arith
+      ]
+
   pub linked_code_is : (code : List ℕ) → EachLink (IsLink objects at) (links objects at)
       → length code ≡ length (code_bytes_of objects at) → agrees (links objects at) at.base (same_byte code (code_bytes_of objects at)) (length code) ≡ true
-      → EachLink (InCode objects at code) (links objects at) → IsLinkedCode objects at code
-  linked_code_is code are size same each = record {
+      → list_all (λ b. nat_lt b 256) code ≡ true → EachLink (InCode objects at code) (links objects at) → IsLinkedCode objects at code
+  linked_code_is code are size same small each = record {
     size = size;
+    bytes = small_bytes code small;
     others = code_elsewhere objects at code (links objects at) (each_at (IsLink objects at) (links objects at) are) size same;
     linked = λ l is. each_at (InCode objects at code) (links objects at) each l (has_link objects at l is);
   }

@@ -187,7 +187,7 @@ unfolding full_rows half_rows on_condition_branch
 strong_in_data2 = λ d. strong_written2
 
 pub strong_linked_code : IsLinkedCode strong_objects strong_at strong_code
-strong_linked_code = linked_code_is strong_objects strong_at strong_code strong_are_links refl refl (strong_in_code0, (strong_in_code1, (strong_in_code2, tt)))
+strong_linked_code = linked_code_is strong_objects strong_at strong_code strong_are_links refl refl refl (strong_in_code0, (strong_in_code1, (strong_in_code2, tt)))
 
 pub strong_linked_data : IsLinkedData strong_objects strong_at (record { base = 32832; cells = strong_cells })
 strong_linked_data = linked_data_is strong_objects strong_at strong_cells strong_are_links refl refl (strong_in_data0, (strong_in_data1, (strong_in_data2, tt)))

@@ -123,7 +123,7 @@ unfolding full_rows half_rows on_condition_branch
 weak_in_data0 = λ h. absurd (both_ways false refl h)
 
 pub weak_linked_code : IsLinkedCode weak_objects weak_at weak_code
-weak_linked_code = linked_code_is weak_objects weak_at weak_code weak_are_links refl refl (weak_in_code0, tt)
+weak_linked_code = linked_code_is weak_objects weak_at weak_code weak_are_links refl refl refl (weak_in_code0, tt)
 
 pub weak_linked_data : IsLinkedData weak_objects weak_at (record { base = 32832; cells = weak_cells })
 weak_linked_data = linked_data_is weak_objects weak_at weak_cells weak_are_links refl refl (weak_in_data0, tt)
