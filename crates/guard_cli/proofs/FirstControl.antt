@@ -23,7 +23,7 @@ use Rattle.guard_cli.specs.Hardened.{AreArguments, EndsAlike, Hardened}
 use Rattle.guard_cli.proofs.Sequences.{returns_of, ends_once}
 use Rattle.guard_cli.proofs.FirstRuns.{after_moves}
 use Rattle.guard_cli.proofs.FirstImages.{lone_object, AreIdle, none_idle, map_idle}
-use Rattle.guard_cli.proofs.FirstLinks.{lone_image, lone_is_image}
+use Rattle.guard_cli.proofs.FirstLinks.{lone_image, lone_is_image, small_code}
 
 -- `movs r0, #5` and `bx lr`
 abbrev halves : List ℕ
@@ -43,7 +43,7 @@ abbrev both : Image
 both = lone_image (code_bytes halves) place
 
 is_image : (more : List Section) → AreIdle more → IsImage (lone_object (code_bytes halves) more ∷ []) place both
-is_image more idle = lone_is_image (code_bytes halves) more idle place is_place (lit≤ tt) (lit≤ tt) (lit< tt)
+is_image more idle = lone_is_image (code_bytes halves) more idle place is_place (lit≤ tt) (lit≤ tt) (lit< tt) (small_code halves)
 
 -- a call with r0 = 9
 abbrev args : List ℕ

@@ -1,5 +1,5 @@
 -- An object of one function has an image where its code fits. So what is made of the first form has one where the room is long enough.
-use Rattle.std.proofs.Common.{◌≡◌, ◌⊎◌, ℕ, zero, suc, ◌+◌, ◌%◌, ◌<◌, ◌≤◌, true, List, [], ◌∷◌, length, map, Some, codes, Contains, slice_get, refl, sym, ap, ◌∙◌, subst, inl, inr, true≢false, length-append, lit<, arith}
+use Rattle.std.proofs.Common.{◌≡◌, ◌⊎◌, ℕ, zero, suc, ◌+◌, ◌%◌, ◌^◌, ◌<◌, ◌≤◌, true, List, [], ◌∷◌, length, map, Some, codes, Contains, slice_get, refl, sym, ap, ◌∙◌, subst, inl, inr, true≢false, length-append, lit<, arith}
 use Rattle.std.specs.List.Sorted.{IsStrictlyIncreasing}
 use Rattle.std.proofs.lemmas.Bool.{cases_lt}
 use Rattle.std.proofs.lemmas.Option.{same_Some}
@@ -7,6 +7,7 @@ use Rattle.elf_model.specs.declared.objects.Section.{Section}
 use Rattle.elf_model.specs.declared.objects.Symbol.{Symbol}
 use Rattle.elf_model.specs.Objects.{ObjectParts}
 use Rattle.elf_model.specs.Canonical.{round_up}
+use Rattle.elf_model.specs.Fields.{byte_at}
 use Rattle.elf_model.specs.Maps.{map_section}
 use Rattle.guard_cli.specs.FirstForm.{IsFirstCode, code_bytes, first_object, code_symbol, function_symbol}
 use Rattle.guard_cli.specs.Output.{doubled, rows_of, hardened_object}
@@ -32,6 +33,13 @@ one_of_two x y z (suc (suc k), lt, e) = absurd (omega arith)
 
 pub is_not_empty : (halves : List ℕ) → IsFirstCode halves → 0 < length halves
 is_not_empty halves is = subst (λ hs. 0 < length hs) (sym is.ends) (omega (arith, length-append is.moves (0x4770 ∷ [])))
+
+-- halfwords as bytes are bytes
+pub small_code : (halves : List ℕ) (x : ℕ) → byte_at (code_bytes halves) x < 2 ^ 8
+small_code [] x = omega arith
+small_code (h ∷ hs) zero = omega arith
+small_code (h ∷ hs) (suc zero) = omega arith
+small_code (h ∷ hs) (suc (suc x)) = small_code hs x
 
 -- the stops of a function that is its section: where it starts, and where it ends
 abbrev pub stops_of : ℕ → List ℕ → List ℕ
@@ -110,8 +118,8 @@ module _ (bytes : List ℕ) (more : List Section) where
             apart e f (inl l) = omega arith
             apart e f (inr l) = let h = l.1 in omega arith
 
-    pub lone_is_image : 0 < length bytes → IsImage (lone bytes more) at (lone_image bytes at)
-    lone_is_image long = image_plain (lone bytes more) at (one_plain (lone_object bytes more) refl) (lone_image bytes at) (record {
+    pub lone_is_image : 0 < length bytes → ((x : ℕ) → byte_at bytes x < 2 ^ 8) → IsImage (lone bytes more) at (lone_image bytes at)
+    lone_is_image long small = image_plain (lone bytes more) at (one_plain (lone_object bytes more) refl) (lone_image bytes at) (subst (λ (b : List ℕ). (x : ℕ) → byte_at b x < 2 ^ 8) (sym (lone_code_bytes bytes more idle at p)) small) (record {
       placement = p;
       can = lone_links;
       parts = ap (map as_part) (sym (lone_parts bytes more idle at p));
@@ -140,5 +148,5 @@ first_links halves is at plain i =
     let long : 0 < length bytes = omega (arith, length_doubled_bytes halves, is_not_empty halves is) in
     elim (cases_lt at.room (length bytes)) [
       | inl over ↦ inr (subst (λ (b : List ℕ). at.room < length b) (sym (lone_code_bytes bytes more idle at f.placement)) over)
-      | inr fits ↦ inl (lone_image bytes at, lone_is_image bytes more idle at f.placement f.end_fits fits long)
+      | inr fits ↦ inl (lone_image bytes at, lone_is_image bytes more idle at f.placement f.end_fits fits long (small_code (doubled halves)))
     ]

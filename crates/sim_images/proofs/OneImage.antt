@@ -63,10 +63,10 @@ answer i = Ok i
 
 module _ (objects : List ObjectParts) (at : Placement) (a b : Image) (sound : AreObjects objects) (is : IsImage objects at a) (also : IsImage objects at b) where
   all : AreBytes a.code.bytes
-  all = is.code.bytes
+  all = is.code.small
 
   too : AreBytes b.code.bytes
-  too = also.code.bytes
+  too = also.code.small
 
   -- at a relocation in code
   module _ (l : Link) (il : IsLink objects at l) (code : is_code l.part.section ≡ true) where

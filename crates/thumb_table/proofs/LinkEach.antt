@@ -1,5 +1,6 @@
 -- An example's image is right where each of its links is, one by one.
-use Rattle.std.specs.Prelude.{◌≡◌, ◌<◌, ◌+◌, ◌^◌, nat_lt, list_all, get_or, true, List, [], ◌∷◌, length, ℕ, Contains, refl, ⊤}
+use Rattle.std.specs.Prelude.{◌≡◌, ◌<◌, ◌+◌, ◌^◌, nat_lt, get_or, true, List, [], ◌∷◌, length, ℕ, Contains, refl, ⊤}
+use Rattle.std.specs.List.{list_all}
 use Rattle.std.proofs.Common.{arith, inl, inr, subst}
 use Rattle.std.proofs.lemmas.Bool.{cases_lt, ltb-true}
 use Rattle.std.proofs.lemmas.List.{get_or_past}
@@ -49,7 +50,7 @@ module _ (objects : List ObjectParts) (at : Placement) where
       → list_all (λ b. nat_lt b 256) code ≡ true → EachLink (InCode objects at code) (links objects at) → IsLinkedCode objects at code
   linked_code_is code are size same small each = record {
     size = size;
-    bytes = small_bytes code small;
+    small = small_bytes code small;
     others = code_elsewhere objects at code (links objects at) (each_at (IsLink objects at) (links objects at) are) size same;
     linked = λ l is. each_at (InCode objects at code) (links objects at) each l (has_link objects at l is);
   }

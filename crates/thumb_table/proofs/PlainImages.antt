@@ -1,5 +1,5 @@
 -- Objects without relocations: their image has the sections' bytes, data without pieces, and no marks.
-use Rattle.std.proofs.Common.{◌≡◌, ◌≤◌, ℕ, zero, suc, ◌+◌, List, [], ◌∷◌, length, map, get_or, Some, refl, sym, ap, ◌∙◌, subst, inl, inr, arith}
+use Rattle.std.proofs.Common.{◌≡◌, ◌<◌, ◌≤◌, ◌^◌, ℕ, zero, suc, ◌+◌, List, [], ◌∷◌, length, map, get_or, Some, refl, sym, ap, ◌∙◌, subst, inl, inr, arith}
 use Rattle.std.specs.Prelude.{◌↔◌, Contains, slice_get}
 use Rattle.std.specs.List.Sorted.{IsStrictlyIncreasing}
 use Rattle.std.proofs.lemmas.Bool.{cases_lt}
@@ -123,14 +123,15 @@ module _ (objects : List ObjectParts) (at : Placement) (plain : ArePlain objects
         entries = is.entries;
       }
 
-  pub image_plain : IsPlainImage objects at image → IsImage objects at image
-  image_plain is = record {
+  pub image_plain : ((x : ℕ) → byte_at (code_bytes_of objects at) x < 2 ^ 8) → IsPlainImage objects at image → IsImage objects at image
+  image_plain small is = record {
     placement = is.placement;
     can = is.can;
     parts = is.parts;
     code_base = is.code_base;
     code = record {
       size = ap length is.code_bytes;
+      small = λ x. subst (λ (bs : List ℕ). byte_at bs x < 2 ^ 8) (sym is.code_bytes) (small x);
       others = λ x free. ap (λ (bs : List ℕ). byte_at bs x) is.code_bytes;
       linked = λ l link code. absurd (no_link objects at plain l link);
     };

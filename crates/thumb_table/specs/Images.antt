@@ -38,7 +38,7 @@ pub record CanLink (objects : List ObjectParts) (at : Placement) : Type 0 where
 -- The code is the sections' bytes in their places but for the places of relocations.
 pub record IsLinkedCode (objects : List ObjectParts) (at : Placement) (bytes : List ℕ) : Type 0 where
   pub size : length bytes ≡ length (code_bytes_of objects at)
-  pub bytes : (x : ℕ) → byte_at bytes x < 2 ^ 8
+  pub small : (x : ℕ) → byte_at bytes x < 2 ^ 8
   pub others : (x : ℕ) → IsFree objects at (at.base + x) → byte_at bytes x ≡ byte_at (code_bytes_of objects at) x
   pub linked : (l : Link) → IsLink objects at l → is_code l.part.section ≡ true → IsWritten (all_placed objects at) bytes at.base l
 
