@@ -34,7 +34,7 @@ use Rattle.hardened_form.specs.Carriers.{Carrier, IsCarrier, IsCarried, kind_on}
 use Rattle.hardened_form.specs.Relocs.{StandsFor, IsNewReloc, of_data, of_step, of_word}
 use Rattle.sim_images.specs.Counterparts.{SameSense, Answers}
 use Rattle.sim_images.proofs.HomesAlike.{code_kept}
-use Rattle.sim_answers.specs.Units.{IsStep, code_end}
+use Rattle.sim_answers.specs.Units.{code_end}
 use Rattle.sim_answers.specs.Forms.{IsFormOf, new_places}
 use Rattle.sim_answers.proofs.Accepted.{not_wrong}
 use Rattle.sim_answers.proofs.Pairs.{zip_left}
@@ -112,7 +112,7 @@ module _ (o h : ObjectParts) (f : FlowParts) (p : UnitPlaces) (carriers : List (
     pub unit : UnitPlace
     pub placed : Contains (units f p) (x, unit)
     pub carried : IsCarried o h r x.section unit c
-    pub step : IsStep h r x.section unit c
+    pub step : IsStart (bytes_of h x.section) unit.start (code_end unit) c.at
     pub section : r.section ≡ x.section
 
   pub of_step_is : (k : ℕ) (r : Reloc) (x : Point) (c : Carrier) (q : Reloc) → IsCarrier f carriers x c → x.reloc ≡ Some k → StandsFor o is.form.lists k r (kind_on c.instr r.kind) c.at q → OfStep k r x c q
@@ -159,12 +159,12 @@ module _ (o h : ObjectParts) (f : FlowParts) (p : UnitPlaces) (carriers : List (
   each_answers q (of_data k r s at other stands) = (k, r, stands.there, record { jump = ap is_jump stands.kind; kind = λ n. stands.kind }, data_word o h f p carriers is k r s q at other stands)
   each_answers q (of_step k r x c carrier point stands) =
       let s = of_step_is k r x c q carrier point stands in
-      let sense : is_jump q.kind ≡ is_jump r.kind = ap is_jump stands.kind ∙ s.step.sense in
+      let sense : is_jump q.kind ≡ is_jump r.kind = ap is_jump stands.kind ∙ s.carried.sense in
       let number = step_number k r x c q carrier point stands in (
         k,
         r,
         stands.there,
-        record { jump = sense; kind = λ n. stands.kind ∙ same_kind r.kind c.instr (s.step.sense ∙ n) },
+        record { jump = sense; kind = λ n. stands.kind ∙ same_kind r.kind c.instr (s.carried.sense ∙ n) },
         answered o h f p carriers is k r (kind_on c.instr r.kind) c.at q stands (inr (record { point = x; listed = s.listed; reloc = point })) sense number,
       )
   each_answers q (of_word k r w y word point stands) =
@@ -201,5 +201,5 @@ module _ (o h : ObjectParts) (f : FlowParts) (p : UnitPlaces) (carriers : List (
       let t = code_section x.section (code_of_point o h f p carriers is x s.listed) in
       let even = unit_even o h f p carriers is x s.unit t.0 s.placed t.1 t.2 in (
         subst (λ (k : RelocKind). 2 ^ 20 ≤ reach k) (sym stands.kind) (long_reach r.kind c.instr (sym (ap is_jump stands.kind) ∙ jump) s.carried.fits),
-        ap (λ (n : ℕ). n % 2) stands.offset ∙ start_even (bytes_of h x.section) s.unit.start (code_end s.unit) c.at even s.step.start,
+        ap (λ (n : ℕ). n % 2) stands.offset ∙ start_even (bytes_of h x.section) s.unit.start (code_end s.unit) c.at even s.step,
       )
