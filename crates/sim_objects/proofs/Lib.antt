@@ -6,3 +6,12 @@ pub mod Living
 pub mod Following
 pub mod Working
 pub mod Linking
+pub mod Walked
+pub mod Kept
+pub mod Puts
+pub mod OneUnit
+pub mod Twins
+pub mod StepsStand
+pub mod WordsStand
+pub mod Loading
+pub mod LinkedUnits

@@ -1,11 +1,13 @@
 //! Laws of the charts of paired objects. The functions do nothing: their contracts are the laws.
 
+ghost use Rattle.sim_objects.specs.Answering.{PairsAnswer};
 ghost use Rattle.sim_objects.specs.Apart.{PointsEndApart, PointsLieLow};
 ghost use Rattle.sim_objects.specs.Exits.{NothingAtExit};
 ghost use Rattle.sim_objects.specs.Following.{UnitsFollow};
 ghost use Rattle.sim_objects.specs.Linking.{ListsAreLinked};
 ghost use Rattle.sim_objects.specs.Living.{PointsLive, PointsSpare};
 ghost use Rattle.sim_objects.specs.Standing.{ChartsHavePoints, PointsStand};
+ghost use Rattle.sim_objects.specs.StandingUnits.{UnitsStand};
 ghost use Rattle.sim_objects.specs.Working.{UnitsWork};
 
 /// No two points of a chart end at one address, so what stands for a return address is determined.
@@ -57,4 +59,14 @@ pub fn units_work()
 /// ordinary step alike, the two images are linked unit by unit.
 pub fn lists_are_linked()
     ensures { ListsAreLinked }
+{}
+
+/// The two lists answer each other, as the laws on two images ask.
+pub fn pairs_answer()
+    ensures { PairsAnswer }
+{}
+
+/// Each unit stands in the hardened image, with what linking puts there.
+pub fn units_stand()
+    ensures { UnitsStand }
 {}
