@@ -1,28 +1,25 @@
 -- The units of a pair are as the laws on two images ask.
-use Rattle.std.specs.Prelude.{◌≡◌, ℕ, zero, suc, true, ◌+◌, List, [], ◌∷◌, length, Option, Some, None, slice_get, Contains, refl}
-use Rattle.std.specs.List.{zip, list_all}
+use Rattle.std.specs.Prelude.{◌≡◌, ℕ, zero, suc, true, List, [], ◌∷◌, length, Some, slice_get, Contains, refl}
+use Rattle.std.specs.List.{zip}
 use Rattle.std.proofs.Common.{arith, ap, sym, ◌∙◌, subst}
 use Rattle.std.proofs.lemmas.Option.{none-some, same_Some, slice_get_within}
-use Rattle.elf_model.specs.declared.objects.Section.{Section}
 use Rattle.elf_model.specs.declared.objects.Reloc.{Reloc}
 use Rattle.elf_model.specs.Objects.{ObjectParts, is_object}
-use Rattle.elf_model.specs.Ranges.{length_at, IsStart, first}
-use Rattle.elf_model.proofs.Elements.{place_of, contains_at, element_at, all_at}
+use Rattle.elf_model.specs.Ranges.{IsStart, first}
+use Rattle.elf_model.proofs.Elements.{place_of, element_at, all_at}
 use Rattle.reloc_places.specs.Starts.{bytes_of}
-use Rattle.thumb_table.specs.declared.placements.Placement.{Placement}
-use Rattle.thumb_table.specs.Parts.{Image}
 use Rattle.flow_recover.specs.declared.flows.Point.{Point}
 use Rattle.hardened_form.specs.Places.{UnitPlace}
 use Rattle.hardened_form.specs.Standing.{units}
 use Rattle.hardened_form.specs.Symbols.{size_of}
 use Rattle.hardened_form.specs.Carriers.{Carrier}
 use Rattle.sim_answers.specs.Units.{code_end, IsUnit, AreUnits}
-use Rattle.sim_answers.specs.Forms.{IsFormOf, IsFormAt, DoAnswer}
+use Rattle.sim_answers.specs.Forms.{IsFormOf, IsFormAt}
 use Rattle.sim_answers.proofs.FormsAnswer.{forms_answer}
 use Rattle.sim_relation.specs.Accepted.{boundaries}
 use Rattle.sim_relation.specs.Sequences.{Sequence}
 use Rattle.sim_relation.specs.Doing.{IsDone}
-use Rattle.sim_objects.specs.Lists.{Pairing, plains, hards, HaveImages}
+use Rattle.sim_objects.specs.Lists.{Pairing, plains, hards}
 use Rattle.sim_objects.specs.UnitLinks.{moved_by, moved_in}
 use Rattle.sim_objects.specs.Answering.{PairsAnswer}
 use Rattle.sim_objects.proofs.Walked.{step_in, unit_ends}

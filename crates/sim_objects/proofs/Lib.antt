@@ -15,3 +15,4 @@ pub mod StepsStand
 pub mod WordsStand
 pub mod Loading
 pub mod LinkedUnits
+pub mod Skipping

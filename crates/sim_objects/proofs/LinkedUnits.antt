@@ -1,18 +1,16 @@
 -- Each unit of a chart of lists stands in the hardened image, with what linking puts there.
-use Rattle.std.specs.Prelude.{◌≡◌, ◌<◌, ◌≤◌, ℕ, ◌+◌, ◌%◌, ◌^◌, Bool, true, false, cond, List, [], length, Option, Some, None, Ok, Err, unwrap_or, slice_get, Contains, refl}
+use Rattle.std.specs.Prelude.{◌≡◌, ◌<◌, ℕ, ◌+◌, ◌^◌, Bool, true, false, cond, List, Option, Some, None, Ok, Err, unwrap_or, slice_get, Contains, refl}
 use Rattle.std.specs.List.{zip}
-use Rattle.std.proofs.Common.{arith, inl, inr, ap, sym, ◌∙◌, subst}
+use Rattle.std.proofs.Common.{arith, ap, sym, ◌∙◌, subst}
 use Rattle.std.proofs.lemmas.Bool.{both_ways, le-leb}
 use Rattle.std.proofs.lemmas.List.{length-map}
 use Rattle.std.proofs.lemmas.Option.{none-some, same_Some, slice_get_within}
-use Rattle.elf_model.specs.declared.objects.Section.{Section}
 use Rattle.elf_model.specs.declared.objects.Reloc.{Reloc}
 use Rattle.elf_model.specs.Fields.{word_at}
-use Rattle.elf_model.specs.Ranges.{length_at, IsStart, first}
+use Rattle.elf_model.specs.Ranges.{length_at, first}
 use Rattle.elf_model.proofs.Elements.{contains_at, element_at}
 use Rattle.mark_word.specs.declared.marks.Mark.{Mark}
 use Rattle.mark_word.specs.declared.marks.Mark.TheVariants.{Plain}
-use Rattle.thumb_instr.specs.declared.instructions.Instr.{Instr}
 use Rattle.thumb_instr.specs.declared.refusals.BadInstr.TheVariants.{Unknown}
 use Rattle.thumb_table.specs.declared.placements.Placement.{Placement}
 use Rattle.thumb_table.specs.Parts.{Image}
@@ -29,7 +27,6 @@ use Rattle.hardened_form.specs.Standing.{units, new_place}
 use Rattle.hardened_form.specs.Relocs.{IsWordOf, in_pool, in_island}
 use Rattle.sim_images.proofs.Sequences.{one_stands}
 use Rattle.sim_images.proofs.StandingLinked.{same_link}
-use Rattle.sim_charts.specs.Charts.{Point}
 use Rattle.sim_answers.specs.Units.{code_end}
 use Rattle.sim_answers.specs.Forms.{DoAnswer}
 use Rattle.sim_answers.proofs.Placed.{word_no_jump}
@@ -38,14 +35,13 @@ use Rattle.sim_answers.proofs.DataAnswered.{word_listed}
 use Rattle.sim_answers.proofs.UnitsStand.{units_stand as code_stands}
 use Rattle.sim_relation.specs.Sequences.{PlacedStep, Sequence}
 use Rattle.sim_relation.specs.Standing.{Linking, IsLinked, linked_mark, StepStands, WordStands, Stands}
-use Rattle.sim_relation.specs.Doing.{MayLink}
 use Rattle.sim_objects.specs.Lists.{Pairing, plains, hards, HaveImages}
-use Rattle.sim_objects.specs.Charts.{start_at, IsPointAt}
-use Rattle.sim_objects.specs.UnitLinks.{moved_in, IsPutFor, IsUnitLink}
-use Rattle.sim_objects.specs.StandingUnits.{StandsLinked, UnitsStand}
+use Rattle.sim_objects.specs.Charts.{start_at}
+use Rattle.sim_objects.specs.UnitLinks.{moved_in, IsUnitLink}
+use Rattle.sim_objects.specs.StandingUnits.{UnitsStand}
 use Rattle.sim_objects.proofs.Parts.{start_is, in_hard, done_is, hard_low, HardPart}
 use Rattle.sim_objects.proofs.Walked.{StepIn, step_in, unit_ends}
-use Rattle.sim_objects.proofs.Kept.{get_zip, zip_get, pairs_answer}
+use Rattle.sim_objects.proofs.Kept.{get_zip, pairs_answer}
 use Rattle.sim_objects.proofs.Puts.{Puts, number, address, branch, put_for, link_of, puts}
 use Rattle.sim_objects.proofs.Twins.{form, step_twin, word_twin}
 use Rattle.sim_objects.proofs.Loading.{loads_of, no_relocation}
@@ -91,27 +87,32 @@ module _ (F c K : ℕ) (pairs : List (Pairing F c K)) (at : Placement) (plain ha
     with_reloc : (k : ℕ) → x.reloc ≡ Some k → (link : Linking) × Fits link
     with_reloc k reloc =
         let t = (step_twin F c K pairs at plain hard images do_answer i q is_pair n k x is_point reloc).1 in
-        let link = link_of F c K pairs at plain hard images do_answer t.new in
-        (link, record {
-          reloc = λ l is file named.
-              let one : t.old ≡ l = same_link (plains pairs) at t.old l t.is_old is (t.old_file ∙ sym file) (t.old_number ∙ same_Some k l.number (sym reloc ∙ named)) in
-              subst (λ (z : Link). Puts F c K pairs at plain hard images do_answer z link) one (puts F c K pairs at plain hard images do_answer t.old t.new t.sense t.value);
-          word = λ m w l loads. absurd (no_relocation q.plain q.pair.flow q.pair.accepted.flow x listed k m reloc loads);
-          own = λ m w loads. absurd (no_relocation q.plain q.pair.flow q.pair.accepted.flow x listed k m reloc loads);
-          target = λ m v none. absurd (none-some k (sym none ∙ reloc));
-        })
+        let link = link_of F c K pairs at plain hard images do_answer t.new in (
+          link,
+          record {
+            reloc = λ l is file named.
+                let one : t.old ≡ l = same_link (plains pairs) at t.old l t.is_old is (t.old_file ∙ sym file) (t.old_number ∙ same_Some k l.number (sym reloc ∙ named)) in
+                subst (λ (z : Link). Puts F c K pairs at plain hard images do_answer z link) one (puts F c K pairs at plain hard images do_answer t.old t.new t.sense t.value);
+            word = λ m w l loads. absurd (no_relocation q.plain q.pair.flow q.pair.accepted.flow x listed k m reloc loads);
+            own = λ m w loads. absurd (no_relocation q.plain q.pair.flow q.pair.accepted.flow x listed k m reloc loads);
+            target = λ m v none. absurd (none-some k (sym none ∙ reloc));
+          },
+        )
 
     -- of one without, for what its word comes to
     without : x.reloc ≡ None → (value : ℕ) (mark : Mark)
         → ((m : ℕ) (w : PoolWord) (l : Link) → x.word ≡ Some m → slice_get q.pair.flow.words m ≡ Some w → IsLink (plains pairs) at l → l.file ≡ i → w.reloc ≡ Some l.number
         → Puts F c K pairs at plain hard images do_answer l (record { target = own_place; number = value; mark = mark }))
         → ((m : ℕ) (w : PoolWord) → x.word ≡ Some m → slice_get q.pair.flow.words m ≡ Some w → w.reloc ≡ None → (value ≡ word_at (bytes_of q.plain w.section) w.offset) × (mark ≡ Plain)) → (link : Linking) × Fits link
-    without none value mark word own = (record { target = own_place; number = value; mark = mark }, record {
-      reloc = λ l is file named. absurd (none-some l.number (sym none ∙ named));
-      word = word;
-      own = own;
-      target = λ m v free has to unit. leads m v to unit;
-    })
+    without none value mark word own = (
+      record { target = own_place; number = value; mark = mark },
+      record {
+        reloc = λ l is file named. absurd (none-some l.number (sym none ∙ named));
+        word = word;
+        own = own;
+        target = λ m v free has to unit. leads m v to unit;
+      },
+    )
 
     -- where the pool has a word
     pooled : (m : ℕ) (w : PoolWord) → slice_get q.pair.flow.words m ≡ Some w → (y : ℕ) × (slice_get q.pair.certificate.places.words m ≡ Some y)

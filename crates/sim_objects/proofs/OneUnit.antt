@@ -1,7 +1,7 @@
 -- A byte of the hardened code is in the instructions of one unit at most, and a word there is of one word of the object.
-use Rattle.std.specs.Prelude.{◌≡◌, ◌<◌, ◌≤◌, ◌⊎◌, ℕ, ◌+◌, ◌==◌, Bool, true, false, List, ◌++◌, map, Option, Some, None, slice_get, Contains, refl}
+use Rattle.std.specs.Prelude.{◌≡◌, ◌<◌, ◌≤◌, ℕ, ◌+◌, Bool, true, false, List, map, Some, slice_get, Contains, refl}
 use Rattle.std.specs.List.{zip}
-use Rattle.std.proofs.Common.{arith, inl, inr, ap, sym, ◌∙◌, subst}
+use Rattle.std.proofs.Common.{arith, inl, inr, ap, sym, ◌∙◌}
 use Rattle.std.proofs.lemmas.Bool.{both_ways}
 use Rattle.std.proofs.lemmas.Option.{same_Some}
 use Rattle.std.proofs.lemmas.List.Elements.{Contains-append_right}
@@ -16,7 +16,7 @@ use Rattle.flow_recover.specs.WholeFlows.{place_of_word}
 use Rattle.flow_recover.proofs.OneFlow.{index_once, point_once_at}
 use Rattle.hardened_form.specs.Places.{UnitPlace, Places as UnitPlaces}
 use Rattle.hardened_form.specs.Items.{Item, item_of_unit, item_of_word, items_in, old_place}
-use Rattle.hardened_form.specs.Standing.{units, pool, old_points, old_words}
+use Rattle.hardened_form.specs.Standing.{units, old_points, old_words}
 use Rattle.hardened_form.specs.Relocs.{IsWordOf, in_pool, in_island}
 use Rattle.hardened_form.specs.Carriers.{Carrier}
 use Rattle.sim_answers.specs.Units.{code_end}
@@ -47,16 +47,22 @@ module _ (o h : ObjectParts) (f : FlowParts) (p : UnitPlaces) (carriers : List (
     unit_item : (x : Point) (u : UnitPlace) → Contains (units f p) (x, u) → x.section ≡ j → Contains (items_in is.form.lists.items j) (item_of_unit (place_of_point x, u))
     unit_item x u c e = here_items o h f p carriers is j t there code (item_of_unit (place_of_point x, u)) (item_of f p is.form.lists.items is.form.tables.lists.items x u c) e
 
+    -- also where a unit has a word of its own
+    pub one_whole : (x y : Point) (u v : UnitPlace) → Contains (units f p) (x, u) → Contains (units f p) (y, v) → x.section ≡ j → y.section ≡ j
+        → (a : ℕ) → u.start ≤ a → a < u.end → v.start ≤ a → a < v.end → x ≡ y
+    one_whole x y u v c d e g a low high from below =
+        elim (items_apart (items_in is.form.lists.items j) 0 t.size (stand o h f p carriers is j t there code) (item_up o h f p carriers is j t there code)
+        (item_of_unit (place_of_point x, u)) (item_of_unit (place_of_point y, v)) (unit_item x u c e) (unit_item y v d g)) [
+          | inl same ↦ point_once x y u v c d (ap old_place same)
+          | inr s ↦ elim s [ inl k ↦ absurd (omega (arith, k, from, high)) | inr k ↦ absurd (omega (arith, k, low, below)) ]
+        ]
+
     pub one_unit : (x y : Point) (u v : UnitPlace) → Contains (units f p) (x, u) → Contains (units f p) (y, v) → x.section ≡ j → y.section ≡ j
         → (a : ℕ) → u.start ≤ a → a < code_end u → v.start ≤ a → a < code_end v → x ≡ y
     one_unit x y u v c d e g a low high from below =
         let one = (unit_end u h x.section (is.units.each x u c)).1 in
         let two = (unit_end v h y.section (is.units.each y v d)).1 in
-        elim (items_apart (items_in is.form.lists.items j) 0 t.size (stand o h f p carriers is j t there code) (item_up o h f p carriers is j t there code)
-        (item_of_unit (place_of_point x, u)) (item_of_unit (place_of_point y, v)) (unit_item x u c e) (unit_item y v d g)) [
-          | inl same ↦ point_once x y u v c d (ap old_place same)
-          | inr s ↦ elim s [ inl k ↦ absurd (omega (arith, k, from, high, one)) | inr k ↦ absurd (omega (arith, k, low, below, two)) ]
-        ]
+        one_whole x y u v c d e g a low (omega (arith, high, one)) from (omega (arith, below, two))
 
     -- the item that a word of the object stands in
     record WordItem (w : PoolWord) (y : ℕ) : Type 0 where

@@ -1,12 +1,10 @@
 -- What linking puts at the places of one relocation of the object, in the hardened image.
-use Rattle.std.specs.Prelude.{◌≡◌, ◌<◌, ℕ, ℤ, pos, negsuc, ◌+◌, ◌-◌, ◌%◌, ◌^◌, ◌&&◌, not, Bool, true, false, cond, nat_lt, List, Option, Some, None, slice_get, refl}
-use Rattle.std.proofs.Common.{arith, inl, inr, ap, sym, ◌∙◌, subst}
-use Rattle.std.proofs.lemmas.Bool.{cases_Bool, both_ways, and_right, cond-true, cond-false, ltb-true}
+use Rattle.std.specs.Prelude.{◌≡◌, ◌<◌, ℕ, pos, negsuc, ◌+◌, ◌-◌, ◌%◌, ◌^◌, ◌&&◌, not, Bool, true, false, cond, nat_lt, List, refl}
+use Rattle.std.proofs.Common.{arith, ap, sym, ◌∙◌, subst}
+use Rattle.std.proofs.lemmas.Bool.{both_ways, and_right, cond-false}
 use Rattle.std.proofs.lemmas.Option.{same_Some}
 use Rattle.elf_model.specs.declared.objects.RelocKind.{RelocKind}
 use Rattle.elf_model.specs.declared.objects.RelocKind.TheVariants.{Abs32, Target1, ThmCall, ThmJump24, MovwAbs, MovtAbs, ThmJump19, ThmJump11, ThmJump8, Other}
-use Rattle.elf_model.specs.Objects.{ObjectParts}
-use Rattle.mark_word.specs.declared.marks.Mark.{Mark}
 use Rattle.mark_word.specs.declared.marks.Mark.TheVariants.{Plain}
 use Rattle.thumb_instr.specs.Meanings.{signed}
 use Rattle.reloc_places.specs.Relocations.{is_jump}

@@ -1,33 +1,28 @@
 -- The instructions of a unit stand in the hardened image, with what linking puts there.
-use Rattle.std.specs.Prelude.{◌≡◌, ◌<◌, ◌≤◌, ℕ, ℤ, ◌+◌, ◌-◌, ◌%◌, ◌^◌, Bool, true, false, cond, List, Option, Some, None, Ok, Err, slice_get, Contains, refl}
+use Rattle.std.specs.Prelude.{◌≡◌, ◌<◌, ◌≤◌, ℕ, ◌+◌, ◌-◌, ◌%◌, ◌^◌, true, false, List, Option, Some, Ok, slice_get, Contains, refl}
 use Rattle.std.proofs.Common.{arith, inl, inr, ap, sym, ◌∙◌, subst}
-use Rattle.std.proofs.lemmas.Bool.{both_ways, le-leb}
-use Rattle.std.proofs.lemmas.Option.{none-some, same_Some}
-use Rattle.elf_model.specs.declared.objects.Section.{Section}
+use Rattle.std.proofs.lemmas.Bool.{both_ways}
+use Rattle.std.proofs.lemmas.Option.{same_Some}
 use Rattle.elf_model.specs.declared.objects.Reloc.{Reloc}
 use Rattle.elf_model.specs.declared.objects.RelocKind.{RelocKind}
 use Rattle.elf_model.specs.declared.objects.RelocKind.TheVariants.{Abs32, Target1, ThmCall, ThmJump24, MovwAbs, MovtAbs, ThmJump19, ThmJump11, ThmJump8, Other}
 use Rattle.elf_model.specs.Objects.{ObjectParts, is_code}
-use Rattle.elf_model.specs.Ranges.{length_at, IsStart, first}
+use Rattle.elf_model.specs.Ranges.{length_at}
 use Rattle.elf_model.proofs.Elements.{contains_at}
 use Rattle.code_ranges.specs.CodeRanges.{holds_code}
 use Rattle.mark_word.specs.declared.marks.Mark.{Mark}
 use Rattle.thumb_instr.specs.declared.instructions.Instr.{Instr}
 use Rattle.thumb_instr.specs.declared.instructions.Instr.TheVariants as instr
-use Rattle.thumb_instr.specs.declared.refusals.ItPlace.TheVariants.{Outside}
-use Rattle.thumb_instr.specs.declared.refusals.BadInstr.TheVariants.{Unknown}
 use Rattle.thumb_instr.specs.Fields.{HalfFields, BranchFields, CallFields}
 use Rattle.thumb_instr.specs.Meanings.{signed}
 use Rattle.thumb_instr.specs.Numbers.{renumbered}
-use Rattle.thumb_instr.specs.Rows.{Answer, decode}
+use Rattle.thumb_instr.specs.Rows.{Answer}
 use Rattle.thumb_table.specs.declared.placements.Placement.{Placement}
 use Rattle.thumb_table.specs.Parts.{Image}
 use Rattle.thumb_table.specs.Layouts.{Placed, all_placed, part_of}
-use Rattle.thumb_table.specs.Links.{Link, IsLink, place_of, sum_of, offset_of, full, target_of, value_of, mark_of}
-use Rattle.thumb_table.specs.Steps.{fetch}
-use Rattle.thumb_table.specs.Effects.{mark_at}
+use Rattle.thumb_table.specs.Links.{Link, IsLink, place_of, sum_of, offset_of, full, target_of, value_of}
 use Rattle.thumb_table.specs.Values.{away}
-use Rattle.reloc_places.specs.Starts.{bytes_of, IsCodeStart, decoded_at, instr_at}
+use Rattle.reloc_places.specs.Starts.{bytes_of, decoded_at}
 use Rattle.reloc_places.specs.Relocations.{is_jump, fits_kind, reloc_at}
 use Rattle.reloc_places.proofs.StartFacts.{length_least, start_before, start_behind}
 use Rattle.flow_recover.specs.declared.flows.Point.{Point}
@@ -36,24 +31,21 @@ use Rattle.hardened_form.specs.Standing.{units}
 use Rattle.hardened_form.specs.Relocs.{IsNewReloc, of_data, of_step, of_word}
 use Rattle.sim_images.specs.Counterparts.{SameSense, Answers}
 use Rattle.sim_images.specs.ImageLaws.{Here}
-use Rattle.sim_images.specs.CodeLaws.{Fetches, IsLinkedInstr, alone, linked}
+use Rattle.sim_images.specs.CodeLaws.{IsLinkedInstr, alone, linked}
 use Rattle.sim_images.specs.PairLaws.{SameValue}
-use Rattle.sim_images.proofs.Sequences.{one_stands}
 use Rattle.sim_answers.specs.Units.{code_end}
 use Rattle.sim_answers.specs.Forms.{DoAnswer, new_places}
 use Rattle.sim_answers.proofs.Pairs.{zip_left}
-use Rattle.sim_answers.proofs.PointPlaces.{at_point}
 use Rattle.sim_answers.proofs.Placed.{reloc_at_is}
 use Rattle.sim_answers.proofs.DataAnswered.{code_of_point, word_listed}
 use Rattle.sim_answers.proofs.RelocsStand.{of_step_is, step_answers, code_section}
 use Rattle.sim_answers.proofs.CodeWords.{HasWord, word_beside}
 use Rattle.sim_answers.proofs.RightRelocs.{word_there}
-use Rattle.sim_answers.proofs.UnitsStand.{units_stand}
-use Rattle.sim_relation.specs.Sequences.{PlacedStep, Sequence, IsSequence}
-use Rattle.sim_relation.specs.Standing.{Linking, IsPut, IsLinked, linked_mark, StepStands}
+use Rattle.sim_relation.specs.Sequences.{PlacedStep}
+use Rattle.sim_relation.specs.Standing.{Linking, IsPut, IsLinked, linked_mark}
 use Rattle.sim_objects.specs.Lists.{Pairing, plains, hards, HaveImages}
 use Rattle.sim_objects.specs.UnitLinks.{moved_in}
-use Rattle.sim_objects.proofs.Walked.{StepIn, step_in, unit_ends}
+use Rattle.sim_objects.proofs.Walked.{StepIn}
 use Rattle.sim_objects.proofs.OneUnit.{one_unit}
 use Rattle.sim_objects.proofs.Puts.{away_signed, jump_value, Puts, Agrees, agrees}
 use Rattle.sim_objects.proofs.Twins.{form, hard_there, plain_link, meet}

@@ -1,8 +1,8 @@
 -- A relocation of an object in the plain list, and one of its hardened form that stands for it, as they are linked.
-use Rattle.std.specs.Prelude.{◌≡◌, ◌<◌, ◌≤◌, ◌⊎◌, ℕ, ◌+◌, ◌==◌, ◌&&◌, Bool, true, false, List, length, get_or, Option, Some, None, slice_get, Contains, refl}
+use Rattle.std.specs.Prelude.{◌≡◌, ℕ, ◌==◌, ◌&&◌, List, get_or, Some, slice_get, refl}
 use Rattle.std.specs.List.{zip}
-use Rattle.std.proofs.Common.{arith, inl, inr, ap, sym, ◌∙◌, subst}
-use Rattle.std.proofs.lemmas.Option.{none-some, same_Some, slice_get_within, slice_get-get_or}
+use Rattle.std.proofs.Common.{arith, ap, sym, ◌∙◌, subst}
+use Rattle.std.proofs.lemmas.Option.{same_Some, slice_get_within, slice_get-get_or}
 use Rattle.std.proofs.lemmas.List.Quantifiers.{position-Some}
 use Rattle.elf_model.specs.declared.objects.Reloc.{Reloc}
 use Rattle.elf_model.specs.declared.objects.RelocKind.TheVariants.{Abs32}
@@ -15,11 +15,9 @@ use Rattle.thumb_table.specs.Links.{Link, IsLink}
 use Rattle.reloc_places.specs.Relocations.{reloc_at}
 use Rattle.flow_recover.specs.declared.flows.Point.{Point}
 use Rattle.flow_recover.specs.declared.flows.PoolWord.{PoolWord}
-use Rattle.hardened_form.specs.Places.{UnitPlace}
-use Rattle.hardened_form.specs.Turns.{Stays}
 use Rattle.hardened_form.specs.Turns.Stays.{of_point, of_word as stays_word}
-use Rattle.hardened_form.specs.Carriers.{Carrier, IsCarrier, kind_on}
-use Rattle.hardened_form.specs.Relocs.{StandsFor, IsWordOf, IsNewReloc, of_step, of_word}
+use Rattle.hardened_form.specs.Carriers.{IsCarrier, kind_on}
+use Rattle.hardened_form.specs.Relocs.{StandsFor, IsWordOf, of_step, of_word}
 use Rattle.sim_images.specs.Counterparts.{Places, SameSense, Answers}
 use Rattle.sim_images.specs.PairLaws.{SameValue}
 use Rattle.sim_images.proofs.EachLinked.{each_linked}

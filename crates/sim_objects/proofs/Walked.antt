@@ -2,14 +2,13 @@
 use Rattle.std.specs.Prelude.{◌≡◌, ◌<◌, ◌≤◌, ℕ, ◌+◌, ◌%◌, cond, List, [], ◌∷◌, Option, Some, None, unwrap_or, Contains, refl}
 use Rattle.std.proofs.Common.{arith, inl, inr, ap, sym, ◌∙◌, subst}
 use Rattle.std.proofs.lemmas.Option.{none-some, same_Some}
-use Rattle.elf_model.specs.Fields.{half_at}
 use Rattle.elf_model.specs.Objects.{ObjectParts}
-use Rattle.elf_model.specs.Ranges.{is_long, length_at, IsStart, first, next}
+use Rattle.elf_model.specs.Ranges.{is_long, length_at, IsStart, next}
 use Rattle.elf_model.proofs.Elements.{contains_cases, contains_none}
 use Rattle.reloc_places.specs.Starts.{bytes_of}
 use Rattle.reloc_places.proofs.StartFacts.{length_least}
 use Rattle.hardened_form.specs.Places.{UnitPlace}
-use Rattle.hardened_form.specs.Code.{filler, IsFill}
+use Rattle.hardened_form.specs.Code.{IsFill}
 use Rattle.sim_answers.specs.Units.{Divides, ended, longer, code_end}
 use Rattle.sim_relation.specs.Sequences.{PlacedStep, Sequence, IsStepAt, AreSteps, EndsWith, IsSequence}
 

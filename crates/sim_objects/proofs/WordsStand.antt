@@ -1,5 +1,5 @@
 -- The words that points load stand in the hardened image, with what linking puts there.
-use Rattle.std.specs.Prelude.{◌≡◌, ◌<◌, ◌≤◌, ℕ, ◌+◌, ◌-◌, ◌%◌, ◌^◌, ◌&&◌, nat_le, Bool, true, false, cond, List, [], length, take, drop, Option, Some, None, slice_get, Contains, refl}
+use Rattle.std.specs.Prelude.{◌≡◌, ◌<◌, ◌≤◌, ℕ, ◌+◌, ◌-◌, ◌%◌, ◌^◌, nat_le, Bool, true, false, cond, List, [], length, take, drop, Option, Some, None, slice_get, Contains, refl}
 use Rattle.std.proofs.Common.{arith, inl, inr, ap, sym, ◌∙◌, subst}
 use Rattle.std.proofs.lemmas.Bool.{both_ways, le-leb, and_from}
 use Rattle.std.proofs.lemmas.Option.{none-some, same_Some}
@@ -9,7 +9,7 @@ use Rattle.elf_model.specs.declared.objects.Section.{Section}
 use Rattle.elf_model.specs.declared.objects.Reloc.{Reloc}
 use Rattle.elf_model.specs.declared.objects.RelocKind.{RelocKind}
 use Rattle.elf_model.specs.declared.objects.RelocKind.TheVariants.{Abs32, Target1, ThmCall, ThmJump24, MovwAbs, MovtAbs, ThmJump19, ThmJump11, ThmJump8, Other}
-use Rattle.elf_model.specs.Fields.{bytes_at, word, word_at}
+use Rattle.elf_model.specs.Fields.{word, word_at}
 use Rattle.elf_model.specs.Objects.{ObjectParts, is_code, even}
 use Rattle.elf_model.proofs.Elements.{contains_at}
 use Rattle.code_ranges.specs.CodeRanges.{holds_code}
@@ -18,7 +18,7 @@ use Rattle.thumb_table.specs.declared.placements.Placement.{Placement}
 use Rattle.thumb_table.specs.Parts.{Image}
 use Rattle.thumb_table.specs.Layouts.{Placed, all_placed, part_of}
 use Rattle.thumb_table.specs.Names.{is_function}
-use Rattle.thumb_table.specs.Links.{Link, IsLink, place_of, sum_of, offset_of, full, value_for, value_of, mark_of}
+use Rattle.thumb_table.specs.Links.{Link, IsLink, place_of, sum_of, offset_of, full, value_for}
 use Rattle.thumb_table.specs.Effects.{lies, mark_at}
 use Rattle.reloc_places.specs.Starts.{bytes_of, IsDataWord}
 use Rattle.reloc_places.specs.Relocations.{is_word, reloc_at}
@@ -47,7 +47,7 @@ use Rattle.sim_relation.specs.Standing.{Linking, WordStands}
 use Rattle.sim_objects.specs.Lists.{Pairing, plains, hards, HaveImages}
 use Rattle.sim_objects.specs.UnitLinks.{moved_in}
 use Rattle.sim_objects.proofs.OneUnit.{one_word}
-use Rattle.sim_objects.proofs.Puts.{Puts, Agrees, agrees}
+use Rattle.sim_objects.proofs.Puts.{Puts, agrees}
 use Rattle.sim_objects.proofs.Twins.{form, reloc_there, word_twin}
 
 -- the number in four bytes

@@ -10,3 +10,4 @@ pub mod Linking
 pub mod UnitLinks
 pub mod Answering
 pub mod StandingUnits
+pub mod Skipping

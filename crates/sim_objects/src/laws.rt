@@ -6,6 +6,7 @@ ghost use Rattle.sim_objects.specs.Exits.{NothingAtExit};
 ghost use Rattle.sim_objects.specs.Following.{UnitsFollow};
 ghost use Rattle.sim_objects.specs.Linking.{ListsAreLinked};
 ghost use Rattle.sim_objects.specs.Living.{PointsLive, PointsSpare};
+ghost use Rattle.sim_objects.specs.Skipping.{AllMaySkip, UnitsKeepOut};
 ghost use Rattle.sim_objects.specs.Standing.{ChartsHavePoints, PointsStand};
 ghost use Rattle.sim_objects.specs.StandingUnits.{UnitsStand};
 ghost use Rattle.sim_objects.specs.Working.{UnitsWork};
@@ -69,4 +70,14 @@ pub fn pairs_answer()
 /// Each unit stands in the hardened image, with what linking puts there.
 pub fn units_stand()
     ensures { UnitsStand }
+{}
+
+/// Units in which no step may be skipped keep out of the addresses at which steps may be.
+pub fn units_keep_out()
+    ensures { UnitsKeepOut }
+{}
+
+/// Where all units may be skipped, steps may be skipped everywhere.
+pub fn all_may_skip()
+    ensures { AllMaySkip }
 {}
