@@ -16,3 +16,4 @@ pub mod WordsStand
 pub mod Loading
 pub mod LinkedUnits
 pub mod Skipping
+pub mod Together

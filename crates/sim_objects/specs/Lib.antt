@@ -11,3 +11,4 @@ pub mod UnitLinks
 pub mod Answering
 pub mod StandingUnits
 pub mod Skipping
+pub mod Together

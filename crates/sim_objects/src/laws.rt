@@ -9,6 +9,7 @@ ghost use Rattle.sim_objects.specs.Living.{PointsLive, PointsSpare};
 ghost use Rattle.sim_objects.specs.Skipping.{AllMaySkip, UnitsKeepOut};
 ghost use Rattle.sim_objects.specs.Standing.{ChartsHavePoints, PointsStand};
 ghost use Rattle.sim_objects.specs.StandingUnits.{UnitsStand};
+ghost use Rattle.sim_objects.specs.Together.{UnitsAreLinked};
 ghost use Rattle.sim_objects.specs.Working.{UnitsWork};
 
 /// No two points of a chart end at one address, so what stands for a return address is determined.
@@ -80,4 +81,9 @@ pub fn units_keep_out()
 /// Where all units may be skipped, steps may be skipped everywhere.
 pub fn all_may_skip()
     ensures { AllMaySkip }
+{}
+
+/// Where the chart goes as control does and linking meets it, the units of a chart are linked.
+pub fn units_are_linked()
+    ensures { UnitsAreLinked }
 {}
