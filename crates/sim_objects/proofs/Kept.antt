@@ -81,7 +81,7 @@ module _ (F c K : ℕ) (q : Pairing F c K) where
       let found = q.pair.carried n.0 all at.sequence both.1 at.steps d one in
       let ends = unit_ends q.hard x.section u at.sequence at.done.stands in
       let found_in = step_in q.hard x.section u.start at.sequence.steps at.sequence.behind at.done.stands.steps u.start (code_end u) ends.behind (λ below. first below) found.0 found.1 in
-      subst (λ (a : ℕ). IsStart (bytes_of q.hard x.section) u.start (code_end u) a) found.2 found_in.start
+      subst (λ (a : ℕ). IsStart (bytes_of q.hard x.section) u.start (code_end u) a) {x = found.0.at} found.2 found_in.start
 
   pub are_units : AreUnits q.plain q.hard q.pair.flow q.pair.certificate.places q.pair.certificate.carriers
   are_units = record { each = is_unit; steps = is_step }
