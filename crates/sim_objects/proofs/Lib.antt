@@ -18,3 +18,4 @@ pub mod LinkedUnits
 pub mod Skipping
 pub mod Together
 pub mod Told
+pub mod Existing

@@ -148,9 +148,9 @@ module _ (f : FlowParts) (b : Boundary) (k : ℕ) where
       let held = settled_path h settled m q y rest there used in
       let more = and_from (on_next h x.next || on_exit h x.exit) (not (always_writes x k)) (on_leads h x m leads held) (not_from_false (always_writes x k) keep) in
       settled p
-          (ap (gained h) at
-          ∙ or_right (uses_at b x k) (passes x && ((on_next h x.next || on_exit h x.exit) && not (always_writes x k)))
-              (and_from (passes x) ((on_next h x.next || on_exit h x.exit) && not (always_writes x k)) pass more))
+      (ap (gained h) at
+      ∙ or_right (uses_at b x k) (passes x && ((on_next h x.next || on_exit h x.exit) && not (always_writes x k)))
+      (and_from (passes x) ((on_next h x.next || on_exit h x.exit) && not (always_writes x k)) pass more))
 
   abbrev check : (ℕ → Bool) → ℕ → Bool
   check h p = not (gained h (slice_get f.points p)) || h p
@@ -185,7 +185,7 @@ module _ (f : FlowParts) (b : Boundary) (k : ℕ) where
                   let w = refused (told d) m.0 m.2 in
                   let new =
                   count_new (told d) (told (suc d)) (λ p t. or_left (told d p) (gained (told d) (slice_get f.points p)) t) (length f.points) m.0 m.1 w.1
-                      (or_right (told d m.0) (gained (told d) (slice_get f.points m.0)) w.0) in
+                  (or_right (told d m.0) (gained (told d) (slice_get f.points m.0)) w.0) in
                   inr (omega (arith, le, new))
             ]
       ]

@@ -2,6 +2,7 @@
 
 ghost use Rattle.sim_objects.specs.Answering.{PairsAnswer};
 ghost use Rattle.sim_objects.specs.Apart.{PointsEndApart, PointsLieLow};
+ghost use Rattle.sim_objects.specs.Existing.{ListsHaveCharts};
 ghost use Rattle.sim_objects.specs.Exits.{NothingAtExit};
 ghost use Rattle.sim_objects.specs.Following.{UnitsFollow};
 ghost use Rattle.sim_objects.specs.Linking.{ListsAreLinked};
@@ -11,6 +12,11 @@ ghost use Rattle.sim_objects.specs.Standing.{ChartsHavePoints, PointsStand};
 ghost use Rattle.sim_objects.specs.StandingUnits.{UnitsStand};
 ghost use Rattle.sim_objects.specs.Together.{UnitsAreLinked};
 ghost use Rattle.sim_objects.specs.Working.{UnitsWork};
+
+/// Lists of pairs with images have a chart.
+pub fn lists_have_charts()
+    ensures { ListsHaveCharts }
+{}
 
 /// No two points of a chart end at one address, so what stands for a return address is determined.
 pub fn points_end_apart()
