@@ -1,4 +1,5 @@
 pub mod Parts
+pub mod Reaching
 pub mod Apart
 pub mod Points
 pub mod Exits
