@@ -8,3 +8,5 @@ pub mod Following
 pub mod Working
 pub mod Linking
 pub mod UnitLinks
+pub mod Moving
+pub mod Meeting
