@@ -2,6 +2,7 @@ pub mod Parts
 pub mod Reaching
 pub mod Moving
 pub mod Entering
+pub mod LinkedPoints
 pub mod Apart
 pub mod Points
 pub mod Exits
