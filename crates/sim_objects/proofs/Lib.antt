@@ -3,6 +3,7 @@ pub mod Reaching
 pub mod Moving
 pub mod Entering
 pub mod LinkedPoints
+pub mod Distances
 pub mod Apart
 pub mod Points
 pub mod Exits
