@@ -4,6 +4,7 @@ pub mod Moving
 pub mod Entering
 pub mod LinkedPoints
 pub mod Distances
+pub mod Leading
 pub mod Apart
 pub mod Points
 pub mod Exits
