@@ -5,6 +5,8 @@ pub mod Entering
 pub mod LinkedPoints
 pub mod Distances
 pub mod Leading
+pub mod PoolWords
+pub mod Numbering
 pub mod Apart
 pub mod Points
 pub mod Exits
