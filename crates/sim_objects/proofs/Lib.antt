@@ -7,6 +7,7 @@ pub mod Distances
 pub mod Leading
 pub mod PoolWords
 pub mod Numbering
+pub mod Meeting
 pub mod Apart
 pub mod Points
 pub mod Exits

@@ -5,6 +5,8 @@ ghost use Rattle.sim_objects.specs.Exits.{NothingAtExit};
 ghost use Rattle.sim_objects.specs.Following.{UnitsFollow};
 ghost use Rattle.sim_objects.specs.Linking.{ListsAreLinked};
 ghost use Rattle.sim_objects.specs.Living.{PointsLive, PointsSpare};
+ghost use Rattle.sim_objects.specs.Meeting.{UnitsMeet};
+ghost use Rattle.sim_objects.specs.Moving.{EntriesAreCharted, LinksEnter, MovesAreCharted};
 ghost use Rattle.sim_objects.specs.Standing.{ChartsHavePoints, PointsStand};
 ghost use Rattle.sim_objects.specs.Working.{UnitsWork};
 
@@ -57,4 +59,24 @@ pub fn units_work()
 /// ordinary step alike, the two images are linked unit by unit.
 pub fn lists_are_linked()
     ensures { ListsAreLinked }
+{}
+
+/// Where a point of either list went, the chart has it with its unit.
+pub fn moves_are_charted()
+    ensures { MovesAreCharted }
+{}
+
+/// Where the flow of an object has an entry, so has the chart.
+pub fn entries_are_charted()
+    ensures { EntriesAreCharted }
+{}
+
+/// An address of code that linking makes in the plain image is an entry's, and what is taken for it that of the entry's unit.
+pub fn links_enter()
+    ensures { LinksEnter }
+{}
+
+/// What linking puts at a unit makes an ordinary step at its point alike.
+pub fn units_meet()
+    ensures { UnitsMeet }
 {}
