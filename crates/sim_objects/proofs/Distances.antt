@@ -1,8 +1,8 @@
 -- Where offsets lead from an address: an instruction's own one, and one that linking put there.
-use Rattle.std.specs.Prelude.{◌≡◌, ◌<◌, ◌≤◌, ℕ, ℤ, pos, negsuc, ◌+◌, ◌-◌, ◌*◌, ◌/◌, ◌%◌, ◌^◌, nat_lt, nat_le, Bool, true, false, cond, Option, Some, None, refl}
+use Rattle.std.specs.Prelude.{◌≡◌, ◌<◌, ℕ, ℤ, pos, negsuc, ◌+◌, ◌-◌, ◌*◌, ◌/◌, ◌%◌, ◌^◌, nat_lt, nat_le, Bool, true, false, cond, Some, None, refl}
 use Rattle.std.specs.Int.{w32, cast_unsigned}
-use Rattle.std.proofs.Common.{arith, inl, inr, ap, sym, ◌∙◌}
-use Rattle.std.proofs.lemmas.Bool.{ltb-true, ltb-false, leb-true}
+use Rattle.std.proofs.Common.{arith, ap, ◌∙◌}
+use Rattle.std.proofs.lemmas.Bool.{ltb-true, leb-true}
 use Rattle.std.proofs.lemmas.Option.{none-some, same_Some}
 use Rattle.thumb_instr.specs.declared.instructions.Instr.{Instr}
 use Rattle.thumb_instr.specs.declared.instructions.Instr.TheVariants as instr

@@ -1,12 +1,11 @@
 -- Links of the plain list lead to entries: an address of code that one makes is that of an entry, and a branch that leaves its
 -- section, or goes by a symbol that other objects see, leads to one.
-use Rattle.std.specs.Prelude.{◌≡◌, ◌<◌, ◌≤◌, ℕ, ◌+◌, ◌-◌, ◌%◌, ◌^◌, ◌==◌, ◌&&◌, ◌||◌, not, Bool, true, false, cond, List, Option, Some, slice_get, refl}
+use Rattle.std.specs.Prelude.{◌≡◌, ◌<◌, ◌≤◌, ℕ, ◌+◌, ◌-◌, ◌%◌, ◌^◌, ◌==◌, ◌&&◌, ◌||◌, not, Bool, true, false, cond, List, Some, slice_get, refl}
 use Rattle.std.proofs.Common.{arith, inl, inr, ap, sym, ◌∙◌, subst}
 use Rattle.std.proofs.lemmas.Bool.{cases_Bool, both_ways, and_from, or_right, eq-eqb, cond-true, cond-false, false_from_ne_true, eqb-true}
 use Rattle.std.proofs.lemmas.Option.{same_Some, slice_get_within}
 use Rattle.elf_model.specs.declared.objects.Section.{Section}
 use Rattle.elf_model.specs.declared.objects.Symbol.{Symbol}
-use Rattle.elf_model.specs.declared.objects.Home.{Home}
 use Rattle.elf_model.specs.declared.objects.Home.TheVariants as homes
 use Rattle.elf_model.specs.Constants.{local, func}
 use Rattle.elf_model.specs.Objects.{ObjectParts, is_code, is_data, even}
@@ -18,7 +17,7 @@ use Rattle.reloc_places.proofs.StartFacts.{start_before}
 use Rattle.thumb_table.specs.declared.placements.Placement.{Placement}
 use Rattle.thumb_table.specs.Parts.{Image}
 use Rattle.thumb_table.specs.Layouts.{Placed, all_placed}
-use Rattle.thumb_table.specs.Names.{is_in_code, is_function, stands}
+use Rattle.thumb_table.specs.Names.{is_in_code}
 use Rattle.thumb_table.specs.Links.{Link, IsLink, leads_to_code, addend_of, sum_of, full, target_of as linked_target, is_other, is_in_range}
 use Rattle.flow_recover.specs.Flows.{FlowParts}
 use Rattle.flow_recover.specs.Aims.{is_entry, by_symbol, by_address, by_branch}
@@ -34,7 +33,6 @@ use Rattle.sim_images.proofs.LinksMeet.{room_of}
 use Rattle.sim_answers.proofs.Accepted.{makes_address, flows_are_accepted}
 use Rattle.sim_objects.specs.Lists.{Pairing, plains, HaveImages}
 use Rattle.sim_objects.specs.Charts.{start_at, IsChartOf}
-use Rattle.sim_objects.specs.UnitLinks.{GoesTo}
 use Rattle.sim_objects.specs.Moving.{Enters, LinksEnter}
 use Rattle.sim_objects.proofs.Parts.{start_is}
 use Rattle.sim_objects.proofs.Moving.{one_point, pair_of, goes_there, entry_there}

@@ -1,5 +1,5 @@
 -- Where the branches and calls of a chart's points lead in both images.
-use Rattle.std.specs.Prelude.{◌≡◌, ◌<◌, ◌≤◌, ◌⊎◌, ℕ, ◌+◌, ◌-◌, ◌%◌, ◌^◌, ◌==◌, Bool, true, false, cond, List, Option, Some, None, Ok, slice_get, refl}
+use Rattle.std.specs.Prelude.{◌≡◌, ◌<◌, ◌≤◌, ◌⊎◌, ℕ, ◌+◌, ◌-◌, ◌%◌, ◌^◌, ◌==◌, Bool, true, false, cond, List, Option, Some, None, slice_get, refl}
 use Rattle.std.proofs.Common.{arith, inl, inr, ap, sym, ◌∙◌, subst}
 use Rattle.std.proofs.lemmas.Bool.{cases_Bool, both_ways, eqb-true, eq-eqb}
 use Rattle.std.proofs.lemmas.Option.{none-some, same_Some, slice_get_within}
@@ -14,7 +14,6 @@ use Rattle.elf_model.proofs.Elements.{element_at, contains_at, place_of}
 use Rattle.thumb_instr.specs.declared.instructions.Instr.{Instr}
 use Rattle.thumb_instr.specs.declared.instructions.Instr.TheVariants as instr
 use Rattle.thumb_instr.specs.Fields.{ZeroBranchFields}
-use Rattle.thumb_instr.specs.Meanings.{signed}
 use Rattle.thumb_instr.specs.Numbers.{renumbered}
 use Rattle.reloc_places.specs.Starts.{bytes_of}
 use Rattle.reloc_places.specs.Relocations.{is_jump, fits_kind, IsRight, reloc_at, target_of}
@@ -40,19 +39,18 @@ use Rattle.flow_recover.proofs.FlowPoints.{target_there}
 use Rattle.sim_charts.specs.Charts.{Chart, Point, leaves}
 use Rattle.sim_answers.proofs.PointPlaces.{at_point, entry_point}
 use Rattle.sim_flows.specs.Meeting.{target_at}
-use Rattle.sim_images.proofs.ValuesAlike.{Itself, local_means}
+use Rattle.sim_images.proofs.ValuesAlike.{local_means}
 use Rattle.sim_relation.specs.Standing.{Linking}
 use Rattle.sim_relation.proofs.FlowPoints.{decodes}
 use Rattle.sim_objects.specs.Lists.{Pairing, plains, hards, HaveImages}
-use Rattle.sim_objects.specs.Charts.{start_at, address_in, IsPointAt, IsCharted, IsChartOf}
-use Rattle.sim_objects.specs.UnitLinks.{IsUnitLink, IsPutFor, branch, number, address}
+use Rattle.sim_objects.specs.Charts.{start_at, address_in, IsPointAt, IsChartOf}
+use Rattle.sim_objects.specs.UnitLinks.{IsUnitLink, branch, number, address}
 use Rattle.sim_objects.specs.Moving.{Stays}
-use Rattle.sim_objects.specs.Moving as moving
 use Rattle.sim_objects.proofs.Parts.{PlainPart, in_plain, plain_low, start_is}
 use Rattle.sim_objects.proofs.Reaching.{decode_near}
 use Rattle.sim_objects.proofs.Apart.{points_lie_low}
 use Rattle.sim_objects.proofs.Moving.{one_point, address_there, point_there, goes_there, entry_there}
-use Rattle.sim_objects.proofs.Entering.{right, IsMeant, meant_there, own_object, own_home, own_branch, branch_leads, branch_enters}
+use Rattle.sim_objects.proofs.Entering.{right, meant_there, own_object, own_home, own_branch, branch_leads, branch_enters}
 use Rattle.sim_objects.proofs.LinkedPoints.{HowLinked, as_is, by_link, how_linked, zero_has_none, branch_jumps, linked_offset, jump_value, IsPointLink, point_link}
 use Rattle.sim_objects.proofs.Distances.{own_leads, linked_away}
 
@@ -263,7 +261,7 @@ module _ (F c K : ℕ) (pairs : List (Pairing F c K)) (at : Placement) (plain ha
       }
     where
       same : p.instr ≡ A.point.instr
-      same = elim (how) [ | as_is free now mark ↦ now | by_link l il file named now mark ↦ absurd (none-some l.number (sym none ∙ named)) ]
+      same = elim (how) [ as_is free now mark ↦ now | by_link l il file named now mark ↦ absurd (none-some l.number (sym none ∙ named)) ]
 
   -- a branch to a point of its own section
   pub near_meets : (m : ℕ) (r : Point) → A.point.exit ≡ exits.Branch m → chart (address_in (plains pairs) at A.file A.pairing.pair.flow m) ≡ Some r

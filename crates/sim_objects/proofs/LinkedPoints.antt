@@ -1,5 +1,5 @@
 -- How the instruction of a point is linked: not at all, or by the one relocation at its place, which is of its kind.
-use Rattle.std.specs.Prelude.{◌≡◌, ℕ, ◌+◌, ◌&&◌, not, Bool, true, false, List, Option, Some, None, Ok, slice_get, refl}
+use Rattle.std.specs.Prelude.{◌≡◌, ℕ, ◌+◌, not, Bool, true, false, List, Option, Some, None, Ok, slice_get, refl}
 use Rattle.std.proofs.Common.{arith, inl, inr, ◌⊎◌, ap, sym, ◌∙◌, subst}
 use Rattle.std.proofs.lemmas.Bool.{both_ways, and_parts, not-true}
 use Rattle.std.proofs.lemmas.Option.{none-some, same_Some}
@@ -20,7 +20,7 @@ use Rattle.thumb_instr.specs.Fields.{HalfFields, ZeroBranchFields}
 use Rattle.thumb_instr.specs.Meanings.{signed}
 use Rattle.thumb_instr.specs.Numbers.{has_number, renumbered}
 use Rattle.reloc_places.specs.Starts.{bytes_of, decoded_at}
-use Rattle.reloc_places.specs.Relocations.{is_jump, is_bl, is_b, is_mov, fits_kind, IsPlace, in_data, in_code, on_instr, IsRight, reloc_at}
+use Rattle.reloc_places.specs.Relocations.{is_jump, is_bl, is_b, is_mov, fits_kind, IsPlace, in_data, in_code, on_instr, IsRight}
 use Rattle.reloc_places.proofs.StartFacts.{start_before, start_behind}
 use Rattle.thumb_table.specs.declared.placements.Placement.{Placement}
 use Rattle.thumb_table.specs.Layouts.{Placed, all_placed, part_of}

@@ -1,5 +1,5 @@
 -- The numbers of MOVW and MOVT, and the words of literal loads, of a chart's points in both images.
-use Rattle.std.specs.Prelude.{◌≡◌, ◌<◌, ◌≤◌, ◌⊎◌, ℕ, ◌+◌, ◌-◌, ◌*◌, ◌/◌, ◌%◌, ◌^◌, ◌==◌, ◌&&◌, not, Bool, true, false, cond, List, [], take, Option, Some, None, slice_get, refl}
+use Rattle.std.specs.Prelude.{◌≡◌, ◌<◌, ◌≤◌, ◌⊎◌, ℕ, ◌+◌, ◌-◌, ◌*◌, ◌/◌, ◌%◌, ◌^◌, ◌==◌, ◌&&◌, not, Bool, true, false, cond, List, [], take, Option, Some, None, refl}
 use Rattle.std.proofs.Common.{arith, inl, inr, ap, sym, ◌∙◌, subst}
 use Rattle.std.proofs.lemmas.Bool.{both_ways, eq-eqb}
 use Rattle.std.proofs.lemmas.List.{append-nil}
@@ -19,7 +19,7 @@ use Rattle.thumb_instr.specs.declared.instructions.Instr.TheVariants as instr
 use Rattle.thumb_instr.specs.Fields.{HalfFields, LiteralFields}
 use Rattle.thumb_instr.specs.Numbers.{renumbered}
 use Rattle.reloc_places.specs.Starts.{bytes_of, IsDataWord}
-use Rattle.reloc_places.specs.Relocations.{is_word, is_jump, fits_kind, IsRight, reloc_at}
+use Rattle.reloc_places.specs.Relocations.{is_word, is_jump, fits_kind, reloc_at}
 use Rattle.thumb_table.specs.declared.placements.Placement.{Placement}
 use Rattle.thumb_table.specs.Parts.{Image}
 use Rattle.thumb_table.specs.Values.{moved}
@@ -27,12 +27,9 @@ use Rattle.thumb_table.specs.Effects.{mark_at, marked}
 use Rattle.thumb_table.specs.Layouts.{Placed, all_placed}
 use Rattle.thumb_table.specs.Names.{is_function}
 use Rattle.thumb_table.specs.Links.{Link, IsLink, place_of, leads_to_code, sum_of, full, offset_of as link_offset, value_for, value_of, mark_for, mark_of}
-use Rattle.flow_recover.specs.Flows.{FlowParts}
-use Rattle.flow_recover.specs.WholeFlows.{IsFlow}
 use Rattle.sim_charts.specs.Charts.{Chart, Point}
 use Rattle.sim_charts.specs.Alike.{EntryTo, SameWord}
 use Rattle.sim_charts.specs.Flows.{site_of}
-use Rattle.sim_images.specs.CodeLaws.{Fetches}
 use Rattle.sim_images.proofs.Sequences.{one_stands}
 use Rattle.sim_images.proofs.PlainWords.{word_as_is}
 use Rattle.sim_images.proofs.Words.{word_linked}
@@ -46,7 +43,7 @@ use Rattle.sim_objects.specs.UnitLinks.{IsUnitLink, IsPutFor, branch, number, ad
 use Rattle.sim_objects.proofs.Entering.{right, links_enter}
 use Rattle.sim_objects.proofs.LinkedPoints.{HowLinked, as_is, by_link, half_kind, one_mark}
 use Rattle.sim_objects.proofs.Distances.{literal_is}
-use Rattle.sim_objects.proofs.PoolWords.{Loaded, loaded, LinkAt, link_at}
+use Rattle.sim_objects.proofs.PoolWords.{Loaded, loaded, link_at}
 use Rattle.sim_objects.proofs.Leading.{part, from, low, how, of_point}
 
 -- words of bytes

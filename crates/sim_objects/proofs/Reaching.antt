@@ -1,7 +1,7 @@
 -- How far the branches and calls that halfwords stand for lead backwards, a row at a time.
 use Rattle.std.proofs.Common.{◌≡◌, ◌<◌, ℕ, zero, suc, ◌+◌, ◌-◌, ◌*◌, ◌^◌, Bool, true, false, cond, List, [], ◌∷◌, Option, Some, None, Ok, Err, refl, subst, arith, ℤ, pos, negsuc}
 use Rattle.std.proofs.lemmas.Bool.{lt-ltb}
-use Rattle.std.specs.Prelude.{◌==◌, nat_lt, slice_get, if◌then◌else◌}
+use Rattle.std.specs.Prelude.{nat_lt, if◌then◌else◌}
 use Rattle.thumb_instr.specs.declared.instructions.Instr.TheVariants as instr
 use Rattle.mark_word.specs.declared.numbers.Shift.{Shift}
 use Rattle.thumb_instr.specs.declared.operations.AluOp.{AluOp}
@@ -18,13 +18,12 @@ use Rattle.thumb_instr.specs.declared.places.Place.{Place}
 use Rattle.thumb_instr.specs.declared.places.PairIndex.{PairIndex}
 use Rattle.thumb_instr.specs.declared.conditions.Cond.{Cond}
 use Rattle.thumb_instr.specs.declared.refusals.BadInstr.{BadInstr}
-use Rattle.thumb_instr.specs.declared.refusals.BadInstr.TheVariants.{Unpredictable, Unknown, SupervisorCall}
 use Rattle.thumb_instr.specs.declared.refusals.ItPlace.{ItPlace}
 use Rattle.thumb_instr.specs.declared.instructions.Instr.{Instr}
 use Rattle.thumb_instr.specs.Patterns.{Bits, Fixed, Field, Made, Row, Answer, cut, fits, filled_in, decoded}
-use Rattle.thumb_instr.specs.Meanings.{is_outside, is_inside, conditions, signed, on_condition, when, alu, move, test, shift_by, wide, half, field, unary, mul, mul_acc, long_mul, div, access, pair, multi, literal, adr, branch, zero_branch, call, jump, call_reg, it, nothing, trap}
+use Rattle.thumb_instr.specs.Meanings.{signed, on_condition, when, alu, move, test, shift_by, wide, half, field, unary, mul, mul_acc, long_mul, div, access, pair, multi, literal, adr, branch, zero_branch, call, jump, call_reg, it, nothing, trap}
 use Rattle.thumb_instr.specs.DataRows.{alu_row, move_row, test_row, or_test, or_move, data_processing}
-use Rattle.thumb_instr.specs.HalfRows.{short_branch, half_rows}
+use Rattle.thumb_instr.specs.HalfRows.{half_rows}
 use Rattle.thumb_instr.specs.FullRows.{many, two_words, exclusive, dual, wide_row, extract, insert, on_condition_branch, on_access, access_row, by_byte, by_register, product, full_rows}
 use Rattle.thumb_instr.specs.Rows.{is_wide, decode}
 
