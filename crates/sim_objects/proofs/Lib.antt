@@ -6,3 +6,5 @@ pub mod Living
 pub mod Following
 pub mod Working
 pub mod Linking
+pub mod EvenStarts
+pub mod EvenPlain
