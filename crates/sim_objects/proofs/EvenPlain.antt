@@ -1,8 +1,8 @@
 -- Control reaches only even offsets of objects that have an image.
-use Rattle.std.specs.Prelude.{◌≡◌, ◌<◌, ◌≤◌, ◌⊎◌, ℕ, ◌+◌, ◌-◌, ◌%◌, ◌^◌, ◌==◌, ◌&&◌, ◌||◌, nat_le, not, Bool, true, false, cond, List, Option, Some, None, Ok, Err, slice_get, refl}
+use Rattle.std.specs.Prelude.{◌≡◌, ◌<◌, ◌⊎◌, ℕ, ◌+◌, ◌-◌, ◌%◌, ◌^◌, ◌==◌, ◌&&◌, ◌||◌, nat_le, not, Bool, true, false, cond, List, Option, Some, None, Ok, Err, slice_get, refl}
 use Rattle.std.proofs.Common.{arith, inl, inr, ap, sym, ◌∙◌, subst}
 use Rattle.std.proofs.lemmas.Bool.{cases_Bool, both_ways, and_parts, and_from, or_right, eqb-true, eqb-false, eq-eqb, leb-true, cond-true, cond-false}
-use Rattle.std.proofs.lemmas.Option.{none-some, same_Some}
+use Rattle.std.proofs.lemmas.Option.{none-some, same_Some, slice_get_within}
 use Rattle.elf_model.specs.declared.objects.Section.{Section}
 use Rattle.elf_model.specs.declared.objects.Symbol.{Symbol}
 use Rattle.elf_model.specs.declared.objects.Reloc.{Reloc}
@@ -24,7 +24,7 @@ use Rattle.reloc_places.specs.Relocations.{is_jump, is_in_code, place_of, value_
 use Rattle.reloc_places.proofs.StartFacts.{start_before, length_least, starts_apart, start_behind}
 use Rattle.code_ranges.specs.CodeRanges.{holds_code}
 use Rattle.code_ranges.proofs.ObjectFacts.{symbol_sound}
-use Rattle.elf_model.proofs.Elements.{all_at}
+use Rattle.elf_model.proofs.Elements.{all_at, element_at, contains_at}
 use Rattle.thumb_table.specs.declared.placements.Placement.{Placement}
 use Rattle.thumb_table.specs.Parts.{Image}
 use Rattle.thumb_table.specs.Layouts.{Placed, all_placed, part_of}
@@ -32,11 +32,12 @@ use Rattle.thumb_table.specs.Names.{is_in_code as lies_in_code, is_defined}
 use Rattle.thumb_table.specs.Links.{Link, leads_to_code, addend_of, is_other}
 use Rattle.thumb_table.specs.Images.{IsImage}
 use Rattle.flow_recover.specs.Walks.{offset_in}
+use Rattle.flow_recover.specs.declared.flows.Point.{Point}
 use Rattle.flow_recover.specs.Flows.{FlowParts}
 use Rattle.flow_recover.specs.Aims.{has_offset, own_target, aim_at, IsAim, by_offset, by_symbol, not_right, is_entry, IsNamed, by_address, by_branch}
 use Rattle.flow_recover.specs.Aims.IsNamed.{by_symbol as named_symbol}
-use Rattle.flow_recover.specs.Reach.{IsFound, node_at, Aims, LeadsOn, on, LeadsAway, away, IsReached, named, led_on, led_away}
-use Rattle.flow_recover.specs.FlowFaults.{IsReachedInstr, by_object}
+use Rattle.flow_recover.specs.Reach.{IsFound, node_at, on, away, IsReached, named, led_on, led_away}
+use Rattle.flow_recover.specs.FlowFaults.{by_object}
 use Rattle.flow_recover.specs.FlowFaults.FlowFault.{no_instr, no_start}
 use Rattle.flow_recover.specs.WholeFlows.{IsFlow}
 use Rattle.sim_images.specs.ImageLaws.{AreObjects, Here, Linked}
@@ -293,3 +294,10 @@ module _ (objects : List ObjectParts) (at : Placement) (image : Image) (sound : 
         | inl a ↦ aim_even n b x found aims.has (reached_even n reached) start refl a
         | inr a ↦ aim_even n b x found aims.has (reached_even n reached) start refl a
       ]
+
+  -- so points stand at even offsets
+  pub point_even : (n : ℕ) (x : Point) → slice_get f.points n ≡ Some x → x.offset % 2 ≡ 0
+  point_even n x point =
+      let z = element_at flow.nodes n (subst (λ (k : ℕ). n < k) flow.count (slice_get_within f.points n x point)) in
+      let is = flow.points n z.0 x z.1 point in
+      ap (λ (k : ℕ). k % 2) is.offset ∙ reached_even z.0 ((flow.reached z.0).0 (contains_at flow.nodes n z.0 z.1))

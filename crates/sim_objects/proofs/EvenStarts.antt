@@ -1,29 +1,16 @@
 -- Instructions that control reaches stand at even offsets, where the objects have an image.
-use Rattle.std.specs.Prelude.{◌≡◌, ◌<◌, ◌≤◌, ◌⊎◌, ℕ, ℤ, pos, negsuc, ◌+◌, ◌-◌, ◌%◌, ◌^◌, ◌==◌, ◌&&◌, ◌||◌, not, nat_le, Bool, true, false, cond, List, Option, Some, None, Ok, Err, slice_get, refl}
+use Rattle.std.specs.Prelude.{◌≡◌, ℕ, ℤ, pos, negsuc, ◌+◌, ◌%◌, ◌^◌, ◌==◌, not, nat_le, Bool, true, false, refl}
 use Rattle.std.specs.Int.{w32, cast_unsigned}
-use Rattle.std.proofs.Common.{arith, inl, inr, ap, sym, ◌∙◌, subst}
-use Rattle.std.proofs.lemmas.Bool.{cases_Bool, both_ways, and_parts, and_from, or_right, or_left, not-true, eqb-true, eq-eqb, leb-true, cond-true, cond-false}
-use Rattle.std.proofs.lemmas.Option.{same_Some}
-use Rattle.elf_model.specs.declared.objects.Section.{Section}
-use Rattle.elf_model.specs.declared.objects.Symbol.{Symbol}
-use Rattle.elf_model.specs.declared.objects.Reloc.{Reloc}
+use Rattle.std.proofs.Common.{arith}
+use Rattle.std.proofs.lemmas.Bool.{both_ways, and_parts, eqb-true}
 use Rattle.elf_model.specs.declared.objects.RelocKind.{RelocKind}
 use Rattle.elf_model.specs.declared.objects.RelocKind.TheVariants.{Abs32, Target1, ThmCall, ThmJump24, MovwAbs, MovtAbs, ThmJump19, ThmJump11, ThmJump8, Other}
-use Rattle.elf_model.specs.declared.objects.Home.{Home}
-use Rattle.elf_model.specs.declared.objects.Home.TheVariants as homes
-use Rattle.elf_model.specs.declared.refusals.Refusal.TheVariants as refusal
-use Rattle.elf_model.specs.Constants.{local, func}
-use Rattle.elf_model.specs.Fields.{half_at}
-use Rattle.elf_model.specs.Objects.{ObjectParts, is_code, even}
-use Rattle.elf_model.specs.Ranges.{is_long, is_whole, length_at}
-use Rattle.code_ranges.specs.CodeRanges.{holds_code}
+use Rattle.elf_model.specs.Objects.{even}
 use Rattle.thumb_instr.specs.declared.instructions.Instr.{Instr}
 use Rattle.thumb_instr.specs.declared.instructions.Instr.TheVariants as instr
-use Rattle.thumb_instr.specs.declared.refusals.BadInstr.TheVariants as bad
 use Rattle.thumb_instr.specs.Formed.{IsFormed}
 use Rattle.thumb_instr.specs.Numbers.{has_number}
 use Rattle.thumb_instr.specs.Operands.{is_even, is_short}
-use Rattle.reloc_places.specs.Starts.{bytes_of, IsCodeStart, HasStart, instr_at, decoded_at}
 use Rattle.reloc_places.specs.Relocations.{is_jump, is_bl, is_b, is_mov, fits_kind}
 use Rattle.flow_recover.specs.Aims.{has_offset, own_target, offset_of}
 

@@ -8,3 +8,5 @@ pub mod Working
 pub mod Linking
 pub mod EvenStarts
 pub mod EvenPlain
+pub mod EvenUnits
+pub mod Even

@@ -7,3 +7,4 @@ pub mod Living
 pub mod Following
 pub mod Working
 pub mod Linking
+pub mod Even
