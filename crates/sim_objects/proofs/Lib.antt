@@ -15,3 +15,7 @@ pub mod Living
 pub mod Following
 pub mod Working
 pub mod Linking
+pub mod EvenStarts
+pub mod EvenPlain
+pub mod EvenUnits
+pub mod Even

@@ -10,3 +10,4 @@ pub mod Linking
 pub mod UnitLinks
 pub mod Moving
 pub mod Meeting
+pub mod Even

@@ -1,6 +1,7 @@
 //! Laws of the charts of paired objects. The functions do nothing: their contracts are the laws.
 
 ghost use Rattle.sim_objects.specs.Apart.{PointsEndApart, PointsLieLow};
+ghost use Rattle.sim_objects.specs.Even.{PlacesAreEven};
 ghost use Rattle.sim_objects.specs.Exits.{NothingAtExit};
 ghost use Rattle.sim_objects.specs.Following.{UnitsFollow};
 ghost use Rattle.sim_objects.specs.Linking.{ListsAreLinked};
@@ -53,6 +54,11 @@ pub fn units_follow()
 /// A unit works where it stands in the hardened image, linked.
 pub fn units_work()
     ensures { UnitsWork }
+{}
+
+/// Points and units stand at even addresses.
+pub fn places_are_even()
+    ensures { PlacesAreEven }
 {}
 
 /// Where places are even, control goes on as in the chart, and units stand in the hardened image with what makes an
