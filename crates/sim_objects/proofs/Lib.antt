@@ -19,3 +19,14 @@ pub mod EvenStarts
 pub mod EvenPlain
 pub mod EvenUnits
 pub mod Even
+pub mod Walked
+pub mod Kept
+pub mod Puts
+pub mod OneUnit
+pub mod Twins
+pub mod StepsStand
+pub mod WordsStand
+pub mod Loading
+pub mod LinkedUnits
+pub mod Skipping
+pub mod Together

@@ -11,3 +11,7 @@ pub mod UnitLinks
 pub mod Moving
 pub mod Meeting
 pub mod Even
+pub mod Answering
+pub mod StandingUnits
+pub mod Skipping
+pub mod Together

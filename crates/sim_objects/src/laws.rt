@@ -1,5 +1,6 @@
 //! Laws of the charts of paired objects. The functions do nothing: their contracts are the laws.
 
+ghost use Rattle.sim_objects.specs.Answering.{PairsAnswer};
 ghost use Rattle.sim_objects.specs.Apart.{PointsEndApart, PointsLieLow};
 ghost use Rattle.sim_objects.specs.Even.{PlacesAreEven};
 ghost use Rattle.sim_objects.specs.Exits.{NothingAtExit};
@@ -8,7 +9,10 @@ ghost use Rattle.sim_objects.specs.Linking.{ListsAreLinked};
 ghost use Rattle.sim_objects.specs.Living.{PointsLive, PointsSpare};
 ghost use Rattle.sim_objects.specs.Meeting.{UnitsMeet};
 ghost use Rattle.sim_objects.specs.Moving.{EntriesAreCharted, LinksEnter, MovesAreCharted};
+ghost use Rattle.sim_objects.specs.Skipping.{AllMaySkip, UnitsKeepOut};
 ghost use Rattle.sim_objects.specs.Standing.{ChartsHavePoints, PointsStand};
+ghost use Rattle.sim_objects.specs.StandingUnits.{UnitsStand};
+ghost use Rattle.sim_objects.specs.Together.{UnitsAreLinked};
 ghost use Rattle.sim_objects.specs.Working.{UnitsWork};
 
 /// No two points of a chart end at one address, so what stands for a return address is determined.
@@ -85,4 +89,29 @@ pub fn links_enter()
 /// What linking puts at a unit makes an ordinary step at its point alike.
 pub fn units_meet()
     ensures { UnitsMeet }
+{}
+
+/// The two lists answer each other, as the laws on two images ask.
+pub fn pairs_answer()
+    ensures { PairsAnswer }
+{}
+
+/// Each unit stands in the hardened image, with what linking puts there.
+pub fn units_stand()
+    ensures { UnitsStand }
+{}
+
+/// Units in which no step may be skipped keep out of the addresses at which steps may be.
+pub fn units_keep_out()
+    ensures { UnitsKeepOut }
+{}
+
+/// Where all units may be skipped, steps may be skipped everywhere.
+pub fn all_may_skip()
+    ensures { AllMaySkip }
+{}
+
+/// Where the chart goes as control does and linking meets it, the units of a chart are linked.
+pub fn units_are_linked()
+    ensures { UnitsAreLinked }
 {}
