@@ -30,3 +30,4 @@ pub mod Loading
 pub mod LinkedUnits
 pub mod Skipping
 pub mod Together
+pub mod DataCells
