@@ -1,12 +1,12 @@
 -- What the cells of an image's data are: bytes, or the bytes of a linked word.
-use Rattle.std.specs.Prelude.{◌≡◌, ◌<◌, ◌≤◌, ℕ, zero, suc, ◌+◌, ◌-◌, Bool, true, false, List, length, get_or, take, drop, Option, Some, None, slice_get, refl}
+use Rattle.std.specs.Prelude.{◌≡◌, ◌<◌, ◌≤◌, ℕ, zero, suc, ◌+◌, ◌-◌, true, false, List, length, get_or, take, drop, Option, Some, None, slice_get, refl}
 use Rattle.std.proofs.Common.{arith, inl, inr, ap, sym, ◌∙◌, subst}
 use Rattle.std.proofs.lemmas.Bool.{cases_Bool, cases_lt}
 use Rattle.std.proofs.lemmas.List.{get_or-take, get_or-drop}
 use Rattle.std.proofs.lemmas.Option.{none-some, same_Some, slice_get_within}
 use Rattle.elf_model.specs.declared.objects.Section.{Section}
 use Rattle.elf_model.specs.declared.objects.Reloc.{Reloc}
-use Rattle.elf_model.specs.Objects.{ObjectParts, is_code, is_data, place_width}
+use Rattle.elf_model.specs.Objects.{ObjectParts, is_code, is_data}
 use Rattle.mark_word.specs.declared.marks.Mark.{Mark}
 use Rattle.mark_word.specs.Words.{Word, Cell, bare, byte_of}
 use Rattle.mark_word.specs.Marks.{pieces, piece_of}
@@ -14,7 +14,7 @@ use Rattle.reloc_places.specs.Relocations.{is_word, IsPlace, in_data, in_code, o
 use Rattle.thumb_table.specs.declared.placements.Placement.{Placement}
 use Rattle.thumb_table.specs.Parts.{Image}
 use Rattle.thumb_table.specs.Layouts.{all_placed}
-use Rattle.thumb_table.specs.Links.{Link, IsLink, full, mark_of, place_of, covers, IsFree}
+use Rattle.thumb_table.specs.Links.{Link, IsLink, full, mark_of, place_of, covers}
 use Rattle.thumb_table.specs.Images.{IsImage}
 use Rattle.sim_images.specs.ImageLaws.{AreObjects}
 use Rattle.sim_images.proofs.PartFacts.{part_is, in_part}

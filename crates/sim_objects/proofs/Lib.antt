@@ -31,3 +31,4 @@ pub mod LinkedUnits
 pub mod Skipping
 pub mod Together
 pub mod DataCells
+pub mod Beginning

@@ -129,7 +129,7 @@ word_value ThmJump11 o f e = absurd (cc)
 word_value ThmJump8 o f e = absurd (cc)
 word_value (Other k) o f e = absurd (cc)
 
-word_mark : (k : RelocKind) (full : ℕ) → is_word k ≡ true → mark_for k full ≡ Entry full
+pub word_mark : (k : RelocKind) (full : ℕ) → is_word k ≡ true → mark_for k full ≡ Entry full
 word_mark Abs32 f e = refl
 word_mark Target1 f e = refl
 word_mark ThmCall f e = absurd (cc)
@@ -142,10 +142,10 @@ word_mark ThmJump8 f e = absurd (cc)
 word_mark (Other k) f e = absurd (cc)
 
 -- marks of links
-mark_outside : (parts : List Placed) (l : Link) → leads_to_code parts l ≡ false → mark_of parts l ≡ Plain
+pub mark_outside : (parts : List Placed) (l : Link) → leads_to_code parts l ≡ false → mark_of parts l ≡ Plain
 mark_outside parts l e = ap (λ (b : Bool). cond (b && not (is_jump l.reloc.kind)) (mark_for l.reloc.kind (full parts l)) Plain) e
 
-mark_inside : (parts : List Placed) (l : Link) → leads_to_code parts l ≡ true → is_jump l.reloc.kind ≡ false → mark_of parts l ≡ mark_for l.reloc.kind (full parts l)
+pub mark_inside : (parts : List Placed) (l : Link) → leads_to_code parts l ≡ true → is_jump l.reloc.kind ≡ false → mark_of parts l ≡ mark_for l.reloc.kind (full parts l)
 mark_inside parts l e j =
     ap (λ (b : Bool). cond (b && not (is_jump l.reloc.kind)) (mark_for l.reloc.kind (full parts l)) Plain) e ∙ ap (λ (b : Bool). cond (true && not b) (mark_for l.reloc.kind (full parts l)) Plain) j
 

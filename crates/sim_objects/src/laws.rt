@@ -2,6 +2,7 @@
 
 ghost use Rattle.sim_objects.specs.Answering.{PairsAnswer};
 ghost use Rattle.sim_objects.specs.Apart.{PointsEndApart, PointsLieLow};
+ghost use Rattle.sim_objects.specs.Beginning.{CallsBegin, MemoriesMeet, NamesEnter};
 ghost use Rattle.sim_objects.specs.Even.{PlacesAreEven};
 ghost use Rattle.sim_objects.specs.Exits.{NothingAtExit};
 ghost use Rattle.sim_objects.specs.Following.{UnitsFollow};
@@ -114,4 +115,19 @@ pub fn all_may_skip()
 /// Where the chart goes as control does and linking meets it, the units of a chart are linked.
 pub fn units_are_linked()
     ensures { UnitsAreLinked }
+{}
+
+/// A name that can be called is that of an entry of the chart.
+pub fn names_enter()
+    ensures { NamesEnter }
+{}
+
+/// Runs on both images begin with memories that are the same.
+pub fn memories_meet()
+    ensures { MemoriesMeet }
+{}
+
+/// Calls of names start alike in both images.
+pub fn calls_begin()
+    ensures { CallsBegin }
 {}
