@@ -8,3 +8,5 @@ pub mod MarkFacts
 pub mod MappingFacts
 pub mod RowBytes
 pub mod MoveFacts
+pub mod FirstFacts
+pub mod ItemFacts

@@ -1,10 +1,12 @@
 //! The hardened object: tables and bytes for a layout.
 #![tactic(auto)]
 
+mod first_items;
 mod lasting;
 mod map_section;
 mod mapping;
 mod marks;
+mod moved_symbols;
 mod moves;
 mod rows;
 mod target_symbols;
