@@ -10,3 +10,4 @@ pub mod RowBytes
 pub mod MoveFacts
 pub mod FirstFacts
 pub mod ItemFacts
+pub mod MovedFacts

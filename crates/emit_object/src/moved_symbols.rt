@@ -149,7 +149,8 @@ pub(crate) fn moved(
         None => with_numbers(alloc, s, s.value, s.size),
         Some((j, at)) => {
             let size = moved_size(f, l, s, j, at, size_at(l, j));
-            with_numbers(alloc, s, at + s.value % 2, size)
+            let t = with_numbers(alloc, s, at + s.value % 2, size)?;
+            Ok(t)
         }
     }
 }
