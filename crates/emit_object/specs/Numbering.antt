@@ -7,8 +7,8 @@ use Rattle.hardened_form.specs.Relocs.{first_target, new_number}
 use Rattle.emit_object.specs.TargetPlaces.{target_at}
 
 -- The targets, by section and old offset; the number of the first of their functions; and each old symbol's number now.
-pub record AreNumbers (o : ObjectParts) (l : Lists) (targets : List (ℕ × ℕ)) (first : ℕ) (numbers : List ℕ) : Type 0 where
-  pub targets : map target_at targets ≡ l.targets
-  pub first : first ≡ first_target o l
-  pub few : first + length targets < 2 ^ 32
+pub record AreNumbers (o : ObjectParts) (l : Lists) (places : List (ℕ × ℕ)) (begin : ℕ) (numbers : List ℕ) : Type 0 where
+  pub targets : map target_at places ≡ l.targets
+  pub first : begin ≡ first_target o l
+  pub few : begin + length places < 2 ^ 32
   pub olds : (k : ℕ) (s : Symbol) → slice_get o.symbols k ≡ Some s → slice_get numbers k ≡ Some (new_number o l k s)

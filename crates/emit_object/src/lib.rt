@@ -8,6 +8,8 @@ mod mapping;
 mod marks;
 mod moved_symbols;
 mod moves;
+mod new_symbols;
+mod numbers;
 mod rows;
 mod target_symbols;
 mod targets;
