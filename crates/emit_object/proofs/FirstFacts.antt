@@ -1,21 +1,20 @@
 -- The first unit or word of a section from an old offset on, among all items in their order.
 use Rattle.std.proofs.Common.{◌≡◌, ◌↔◌, ◌<◌, ◌≤◌, ◌⊎◌, ℕ, zero, suc, Bool, true, false, cond, List, [], ◌∷◌, ◌++◌, length, map, get_or, refl, sym, ap, ◌∙◌, subst, inl, inr, arith, Option, Some, None}
-use Rattle.std.specs.Prelude.{Contains, slice_get, find, nat_lt, nat_le, ◌==◌, ◌&&◌, ◌||◌}
+use Rattle.std.specs.Prelude.{Contains, slice_get, find, nat_lt, nat_le, ◌==◌, ◌&&◌}
 use Rattle.std.specs.Option.{option_map}
-use Rattle.std.specs.List.{zip}
 use Rattle.std.specs.List.Sorted.{IsStrictlySortedBy, IsPartitionedBy, IsPartitionPoint}
 use Rattle.std.specs.declared.cmp.Ordering.TheVariants.{Less}
-use Rattle.std.proofs.lemmas.Bool.{cases_Bool, cases_lt, true≢false, and_parts, and_from, eqb-true, eq-eqb, ltb-true, ltb-false}
+use Rattle.std.proofs.lemmas.Bool.{cases_Bool, cases_lt, true≢false, and_parts, eqb-true, ltb-true, ltb-false}
 use Rattle.std.proofs.lemmas.Bool.Decides.{nat_tests}
 use Rattle.std.proofs.lemmas.List.Elements.{Contains-append_left, Contains-append_right, Contains-append_cases}
 use Rattle.std.proofs.lemmas.Map.Keys.{Less-from_sorted}
-use Rattle.std.proofs.lemmas.Option.{none-some, same_Some, slice_get-get_or, slice_get_within, get_or_from_slice_get, slice_get-map}
+use Rattle.std.proofs.lemmas.Option.{none-some, same_Some, slice_get_within, get_or_from_slice_get, slice_get-map}
 use Rattle.std.proofs.lemmas.List as lists
-use Rattle.elf_model.proofs.Elements.{contains_cases, contains_here, contains_later, contains_none, contains_map, map_contains, found, finds}
+use Rattle.elf_model.proofs.Elements.{contains_cases, contains_here, contains_later, contains_none, found, finds}
 use Rattle.code_ranges.specs.Spans.{place_cmp}
-use Rattle.code_ranges.proofs.InOrder.{Rises, rises_keys}
+use Rattle.code_ranges.proofs.InOrder.{Rises}
 use Rattle.code_ranges.proofs.MarkFacts.{less}
-use Rattle.hardened_form.specs.Items.{Item, old_place, AreItems}
+use Rattle.hardened_form.specs.Items.{Item, old_place}
 use Rattle.hardened_form.specs.Standing.{is_from, new_or, first_from}
 use Rattle.emit_object.specs.FirstItems.{is_earlier, IsFirstFrom, old_and_new, first_of, nearer_or}
 
@@ -96,8 +95,8 @@ module _ (j x : ℕ) where
             ∙ sym (ap (λ (b : Bool). option_map old_and_new (cond b (Some it) (find (is_from j x) rest))) (from_is it late e))
         | inr n ↦
             let none : find (is_from j x) (it ∷ rest) ≡ None =
-              ap (λ (b : Bool). cond b (Some it) (find (is_from j x) rest)) (not_elsewhere it n)
-              ∙ none_from rest (λ z h. not_behind it z late n (rise.0 z h)) in
+            ap (λ (b : Bool). cond b (Some it) (find (is_from j x) rest)) (not_elsewhere it n)
+            ∙ none_from rest (λ z h. not_behind it z late n (rise.0 z h)) in
             ap (λ (b : Bool). cond b (Some (old_and_new it)) None) n ∙ sym (ap (option_map old_and_new) none)
       ]
 

@@ -1,6 +1,6 @@
 -- The items of a layout, and the first of them from an old offset on.
-use Rattle.std.proofs.Common.{◌≡◌, ◌<◌, ◌≤◌, ℕ, zero, suc, Bool, true, false, cond, List, [], ◌∷◌, length, map, get_or, refl, sym, ap, ◌∙◌, subst, arith, Option, Some, None}
-use Rattle.std.specs.Prelude.{slice_get, ◌==◌, ◌&&◌}
+use Rattle.std.proofs.Common.{◌≡◌, ◌<◌, ◌≤◌, ℕ, zero, suc, Bool, cond, List, [], ◌∷◌, length, map, get_or, refl, sym, ap, ◌∙◌, subst, arith, Option, Some, None}
+use Rattle.std.specs.Prelude.{slice_get, ◌==◌}
 use Rattle.std.specs.List.{zip}
 use Rattle.std.specs.List.Sorted.{IsStrictlySortedBy}
 use Rattle.std.proofs.lemmas.Option.{none-some, same_Some, slice_get_within, slice_get-map, slice_get-get_or}
@@ -16,12 +16,11 @@ use Rattle.flow_recover.specs.Flows.{FlowParts}
 use Rattle.flow_recover.specs.Points.{place_of_point, PointsRise}
 use Rattle.flow_recover.specs.WholeFlows.{place_of_word}
 use Rattle.seq_core.specs.Places.{PlacedParts, LayoutParts}
-use Rattle.hardened_form.specs.Places.{UnitPlace}
 use Rattle.hardened_form.specs.Items.{Item, old_place, item_of_unit, item_of_word}
 use Rattle.hardened_form.specs.Standing.{old_points, old_words, first_from}
 use Rattle.emit_object.specs.LaidPlaces.{unit_place}
 use Rattle.emit_object.specs.Laid.{Matches}
-use Rattle.emit_object.specs.FirstItems.{AreItemsOf, unit_items, word_items, IsFirstFrom, old_and_new, first_of, nearer_or}
+use Rattle.emit_object.specs.FirstItems.{AreItemsOf, unit_items, word_items, IsFirstFrom, first_of, nearer_or}
 use Rattle.emit_object.proofs.FirstFacts.{Before, entry_at, first_entry, among}
 
 -- what makes items keeps their old places

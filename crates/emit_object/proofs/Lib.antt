@@ -11,3 +11,4 @@ pub mod MoveFacts
 pub mod FirstFacts
 pub mod ItemFacts
 pub mod MovedFacts
+pub mod NumberFacts

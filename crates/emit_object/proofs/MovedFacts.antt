@@ -1,5 +1,5 @@
 -- Symbols of code that are at points, and where they stand now.
-use Rattle.std.proofs.Common.{◌≡◌, ◌<◌, ◌^◌, ℕ, ◌+◌, ◌%◌, Bool, true, false, cond, List, refl, sym, ap, ◌∙◌, subst, arith, Option, Some, None}
+use Rattle.std.proofs.Common.{◌≡◌, ◌<◌, ◌^◌, ℕ, ◌+◌, ◌%◌, Bool, true, false, cond, List, refl, sym, ap, ◌∙◌, subst, Option, Some, None}
 use Rattle.std.specs.Prelude.{slice_get, slice_index, All}
 use Rattle.std.specs.Option.{option_map}
 use Rattle.std.proofs.lemmas.Bool.{true≢false}
@@ -9,7 +9,7 @@ use Rattle.elf_model.specs.declared.objects.Section.{Section}
 use Rattle.elf_model.specs.declared.objects.Symbol.{Symbol}
 use Rattle.elf_model.specs.declared.objects.Home.{Home}
 use Rattle.elf_model.specs.declared.objects.Home.TheVariants as homes
-use Rattle.elf_model.specs.Objects.{ObjectParts, is_code, even}
+use Rattle.elf_model.specs.Objects.{ObjectParts, even}
 use Rattle.code_ranges.specs.CodeRanges.{holds_code}
 use Rattle.reloc_places.specs.Relocations.{is_in_code}
 use Rattle.seq_core.specs.Places.{PlacedParts}

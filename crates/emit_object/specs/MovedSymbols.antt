@@ -1,5 +1,5 @@
 -- Symbols of code that stay, and those that are at points.
-use Rattle.std.specs.Prelude.{◌≡◌, ◌<◌, ℕ, ◌+◌, ◌^◌, ◌==◌, ◌&&◌, ◌||◌, not, Bool, true, false, List, Option, Some, None, if◌then◌else◌, is_some, slice_index, [], ◌∷◌}
+use Rattle.std.specs.Prelude.{◌≡◌, ◌<◌, ℕ, ◌+◌, ◌^◌, ◌==◌, ◌&&◌, ◌||◌, not, Bool, List, Option, Some, None, if◌then◌else◌, is_some, [], ◌∷◌}
 use Rattle.std.specs.Option.{option_map}
 use Rattle.elf_model.specs.declared.objects.Symbol.{Symbol}
 use Rattle.elf_model.specs.declared.objects.Home.{Home}

@@ -82,13 +82,7 @@ fn nearer_or(unit: Option<(u32, u32)>, word: Option<(u32, u32)>, size: u32) -> u
         (None, None) => size,
         (Some(u), None) => u.1,
         (None, Some(w)) => w.1,
-        (Some(u), Some(w)) => {
-            if w.0 < u.0 {
-                w.1
-            } else {
-                u.1
-            }
-        }
+        (Some(u), Some(w)) => { if w.0 < u.0 { w.1 } else { u.1 } }
     }
 }
 

@@ -111,12 +111,7 @@ fn moved_size(f: &Flow, l: &Layout, s: &Symbol, section: u32, at: u32, size: u32
 }
 
 /// A copy of a symbol with another value and size.
-fn with_numbers(
-    alloc: Global,
-    s: &Symbol,
-    value: u32,
-    size: u32,
-) -> Result<Symbol, AllocError>
+fn with_numbers(alloc: Global, s: &Symbol, value: u32, size: u32) -> Result<Symbol, AllocError>
     ensures { IfOk result (λ t. t ≡ record s.now { value = value; size = size }) }
 {
     let name = Vec::from_slice(alloc, s.name.bytes())?;

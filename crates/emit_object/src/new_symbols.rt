@@ -18,7 +18,7 @@ ghost use Rattle.emit_object.specs.TargetPlaces.{target_at};
 ghost use Rattle.emit_object.specs.TargetSymbols.{function_by, functions_of};
 ghost use Rattle.emit_object.specs.FirstItems.{AreItemsOf};
 ghost use Rattle.emit_object.specs.Laid.{Matches, HasSizes, IsLow};
-ghost use Rattle.emit_object.specs.Numbering.{AreNumbers};
+ghost use Rattle.emit_object.specs.Numbering.{AreNewSymbols};
 
 use crate::mapping::mapping_symbols;
 use crate::moved_symbols::{moved, stays};
@@ -139,4 +139,39 @@ fn push_functions(
         list.push(function_of(alloc, f, l, ordinal, *t)?)?;
     }
     Ok(())
+}
+
+/// The symbols of the hardened object, in order, and their numbers: local ones that stay, mapping symbols, a function for
+/// each target that gets one, and what other objects see.
+pub(crate) fn new_symbols(
+    alloc: Global,
+    o: &Object,
+    f: &Flow,
+    l: &Layout,
+) -> Result<NewSymbols, AllocError>
+    requires within { IsTrue (is_within o.now Limit.ANY) }
+    requires flow { IsFlow o.now f.now }
+    requires matches { Matches f.now l.now }
+    requires low { All IsLow l.now.units }
+    requires small { All (λ w. w.1 + 4 < 2 ^ 32) (map pool_place (zip f.now.words l.now.words) ++ islands l.now.units) }
+    ensures { IfOk result (λ n. (h : ObjectParts) (items : List Item) → HasSizes o.now h l.now.sizes → AreItemsOf f.now l.now items → AreNewSymbols o.now h f.now l.now items n.list.items n.targets.items n.first_target n.numbers.items) }
+{
+    o.sound();
+    let targets = targets(alloc, o, f)?;
+    let ordinals = ordinals(alloc, o.sections())?;
+    let mut list = Vec::new(alloc);
+    push_kept(&mut list, alloc, o, f, l)?;
+    let mut mappings = mapping_symbols(alloc, o, f, l)?;
+    list.append(&mut mappings)?;
+    let first_target = number_behind(list.len(), targets.len())?;
+    push_functions(&mut list, alloc, f, l, &ordinals, &targets)?;
+    let first_shared = number_behind(list.len(), o.symbols().len())?;
+    push_shared(&mut list, alloc, o, f, l)?;
+    let numbers = numbers(alloc, o, f, l, first_shared)?;
+    Ok(NewSymbols {
+        list,
+        targets,
+        first_target,
+        numbers,
+    })
 }

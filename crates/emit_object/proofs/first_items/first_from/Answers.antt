@@ -1,5 +1,5 @@
 use Rattle.std.proofs.Common.{ap, ◌∙◌, Option, ℕ}
-use Rattle.emit_object.specs.FirstItems.{unit_items, word_items, first_of, nearer_or}
+use Rattle.emit_object.specs.FirstItems.{unit_items, first_of, nearer_or}
 use Rattle.emit_object.proofs.ItemFacts.{first_is}
 use Rattle.emit_object.proofs.first_items.first_from.Goals as goal
 

@@ -1,4 +1,4 @@
-use Rattle.std.proofs.Common.{◌≡◌, ◌<◌, ◌^◌, ℕ, ◌+◌, ◌∙◌, true, sym, ap, subst, rules}
+use Rattle.std.proofs.Common.{◌≡◌, ◌<◌, ◌^◌, ℕ, ◌+◌, true, ap, subst, rules}
 use Rattle.std.proofs.lemmas.Option.{same_Some}
 use Rattle.reloc_places.specs.Relocations.{is_in_code}
 use Rattle.emit_object.proofs.MovedFacts.{begins_low, is_placed}

@@ -1,4 +1,4 @@
-use Rattle.std.proofs.Common.{◌∙◌, ℕ, Option, sym, ap, rules}
+use Rattle.std.proofs.Common.{ℕ, Option, ap, rules}
 use Rattle.std.specs.Prelude.{unwrap_or}
 use Rattle.emit_object.proofs.MovedFacts.{begins_low}
 use Rattle.emit_object.proofs.new_symbols.place_or_0.Goals as goal
