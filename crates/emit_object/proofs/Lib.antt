@@ -12,3 +12,6 @@ pub mod FirstFacts
 pub mod ItemFacts
 pub mod MovedFacts
 pub mod NumberFacts
+pub mod SymbolNames
+pub mod SoundSymbols
+pub mod WholeSymbols

@@ -11,3 +11,4 @@ pub mod TargetSymbols
 pub mod FirstItems
 pub mod Numbering
 pub mod MovedSymbols
+pub mod LieInside

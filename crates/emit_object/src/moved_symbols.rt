@@ -1,6 +1,6 @@
 //! Which symbols stay, and where they stand now.
 
-ghost use Rattle.std.specs.Prelude.{◌≡◌, ◌+◌, ◌-◌, ◌&&◌, ◌||◌, ◌==◌, not, All, List, map, is_some, slice_index, IfOk};
+ghost use Rattle.std.specs.Prelude.{◌≡◌, All, List, map, slice_index, IfOk};
 ghost use Rattle.std.specs.List.Sorted.{IsStrictlySortedBy};
 ghost use Rattle.elf_model.specs.Objects.{ObjectParts};
 ghost use Rattle.elf_model.specs.Ranges.{is_mapping as is_mapping_symbol};
@@ -11,7 +11,7 @@ ghost use Rattle.hardened_form.specs.Items.{Item};
 ghost use Rattle.hardened_form.specs.Symbols.{moved as moved_by, moved_size as moved_size_of, stays as stays_among};
 ghost use Rattle.emit_object.specs.FirstItems.{AreItemsOf};
 ghost use Rattle.emit_object.specs.Laid.{Matches, HasSizes, IsLow};
-ghost use Rattle.emit_object.specs.MovedSymbols.{stays_in_code as stays_in_code_by, IsPlaced, with_place};
+ghost use Rattle.emit_object.specs.MovedSymbols.{stays_in_code as stays_in_code_by, IsPlaced};
 
 use crate::first_items::first_from;
 use crate::moves::new_place;

@@ -1,23 +1,24 @@
 //! The symbols of the hardened object, and the numbers that they have there.
 
-ghost use Rattle.std.specs.Prelude.{◌≡◌, ◌+◌, ◌<◌, ◌^◌, ◌++◌, All, List, filter, length, map, slice_index, unwrap_or, IfOk, OnOk, IsTrue};
-ghost use Rattle.std.specs.List.{zip};
+ghost use Rattle.std.specs.Prelude.{◌≡◌, ◌+◌, ◌<◌, ◌^◌, ◌&&◌, ◌++◌, All, List, filter, length, map, unwrap_or, IfOk, OnOk, IsTrue};
+ghost use Rattle.std.specs.List.{zip, list_all};
 ghost use Rattle.std.specs.List.Sorted.{IsStrictlySortedBy};
-ghost use Rattle.elf_model.specs.declared.objects.Symbol.{Symbol};
-ghost use Rattle.elf_model.specs.Objects.{ObjectParts, is_within};
+ghost use Rattle.elf_model.specs.declared.objects.MapRow.{MapRow};
+ghost use Rattle.elf_model.specs.Objects.{ObjectParts, is_within, is_symbol, locals_first};
 ghost use Rattle.code_ranges.specs.Spans.{place_cmp};
 ghost use Rattle.flow_recover.specs.Points.{PointsRise};
 ghost use Rattle.flow_recover.specs.WholeFlows.{place_of_word, IsFlow};
 ghost use Rattle.hardened_form.specs.Items.{Item};
+ghost use Rattle.hardened_form.specs.Sections.{AreSections};
 ghost use Rattle.hardened_form.specs.Standing.{new_place as new_place_among};
-ghost use Rattle.hardened_form.specs.Symbols.{Lists, moved as moved_by, stays as stays_among, is_shared, new_symbols as new_symbols_of};
-ghost use Rattle.hardened_form.specs.HardenedForms.{AreLists};
+ghost use Rattle.hardened_form.specs.Symbols.{moved as moved_by, stays as stays_among, is_shared};
 ghost use Rattle.emit_object.specs.LaidPlaces.{places_of};
 ghost use Rattle.emit_object.specs.WordPlaces.{pool_place, islands};
 ghost use Rattle.emit_object.specs.TargetPlaces.{target_at};
 ghost use Rattle.emit_object.specs.TargetSymbols.{function_by, functions_of};
 ghost use Rattle.emit_object.specs.FirstItems.{AreItemsOf};
 ghost use Rattle.emit_object.specs.Laid.{Matches, HasSizes, IsLow};
+ghost use Rattle.emit_object.specs.LieInside.{LieInside};
 ghost use Rattle.emit_object.specs.Numbering.{AreNewSymbols};
 
 use crate::mapping::mapping_symbols;
@@ -154,7 +155,8 @@ pub(crate) fn new_symbols(
     requires matches { Matches f.now l.now }
     requires low { All IsLow l.now.units }
     requires small { All (λ w. w.1 + 4 < 2 ^ 32) (map pool_place (zip f.now.words l.now.words) ++ islands l.now.units) }
-    ensures { IfOk result (λ n. (h : ObjectParts) (items : List Item) → HasSizes o.now h l.now.sizes → AreItemsOf f.now l.now items → AreNewSymbols o.now h f.now l.now items n.list.items n.targets.items n.first_target n.numbers.items) }
+    ensures symbols { IfOk result (λ n. (h : ObjectParts) (items : List Item) → HasSizes o.now h l.now.sizes → AreItemsOf f.now l.now items → AreNewSymbols o.now h f.now l.now items n.list.items n.targets.items n.first_target n.numbers.items) }
+    ensures sound { IfOk result (λ n. (h : ObjectParts) (items : List Item) (rows : List MapRow) → HasSizes o.now h l.now.sizes → AreItemsOf f.now l.now items → AreSections o.now h rows → LieInside h f.now (places_of l.now) items → IsTrue (list_all (is_symbol h.sections) n.list.items && locals_first n.list.items)) }
 {
     o.sound();
     let targets = targets(alloc, o, f)?;

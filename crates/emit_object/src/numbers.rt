@@ -1,6 +1,6 @@
 //! The numbers of old symbols in the hardened object.
 
-ghost use Rattle.std.specs.Prelude.{◌≡◌, ◌+◌, ◌<◌, ◌^◌, List, length, IfOk, is_ok};
+ghost use Rattle.std.specs.Prelude.{◌≡◌, ◌+◌, ◌<◌, ◌^◌, List, length, IfOk};
 ghost use Rattle.flow_recover.specs.Points.{PointsRise};
 ghost use Rattle.hardened_form.specs.Items.{Item};
 ghost use Rattle.hardened_form.specs.Symbols.{stays as stays_among};

@@ -10,6 +10,7 @@ use Rattle.flow_recover.proofs.FlowPoints.{points_rise}
 use Rattle.emit_object.specs.RowLists.{ordinals_from}
 use Rattle.emit_object.proofs.RowTurns.{ordinals_length}
 use Rattle.emit_object.proofs.NumberFacts.{target_within, are_new_symbols}
+use Rattle.emit_object.proofs.WholeSymbols.{sound_list}
 use Rattle.emit_object.proofs.new_symbols.new_symbols.Goals as goal
 
 pub push_kept-requires-clause-points : goal.push_kept-requires-clause-points
@@ -33,8 +34,8 @@ push_shared-requires-clause-points c = points_rise c.args.o.now c.args.f.now c.r
 pub numbers-requires-clause-points : goal.numbers-requires-clause-points
 numbers-requires-clause-points c = points_rise c.args.o.now c.args.f.now c.requires.flow c.requires.within
 
-pub returns : goal.returns
-returns c = λ h items sized are.
+pub returns-clause-symbols : goal.returns-clause-symbols
+returns-clause-symbols c = λ h items sized are.
     let o = c.args.o.now in
     let m = c.in_ok-mappings.ensures h sized in
     let none : c.new-list.result.items ≡ [] = c.new-list.ensures.items in
@@ -54,3 +55,8 @@ returns c = λ h items sized are.
     c.in_ok-first_target.first_target first c.deref.result.now ordinals c.push_functions.new.list.items
     (with_functions ∙ ap (λ (ps : List (ℕ × ℕ)). c.append.new.self.items ++ functions_of items c.deref.result.now ps) places) c.in_ok-first_shared.first_shared start few c.push_shared.new.list.items all
     c.in_ok-numbers.numbers.items numbers
+
+pub returns-clause-sound : goal.returns-clause-sound
+returns-clause-sound c = λ h items rows sized are sections inside.
+    sound_list c.args.o.now h rows c.args.f.now c.args.l.now items c.push_shared.new.list.items c.in_ok-targets.targets.items c.in_ok-first_target.first_target c.in_ok-numbers.numbers.items
+    (returns-clause-symbols c h items sized are) sections inside c.requires.within c.sound.ensures c.requires.flow (points_rise c.args.o.now c.args.f.now c.requires.flow c.requires.within) c.requires.matches are
