@@ -7,3 +7,4 @@ pub mod Given
 pub mod Faults
 pub mod Layouts
 pub mod Standing
+pub mod Coding

@@ -2,6 +2,7 @@
 #![tactic(auto)]
 
 mod aiming;
+mod coding;
 mod copies;
 mod laws;
 mod laying;
@@ -10,6 +11,6 @@ mod standing;
 mod stretches;
 
 pub use laws::numbers_have_codes;
-pub use laying::places;
+pub use laying::{lay, places};
 pub use standing::Placing;
 pub use stretches::Stretch;
