@@ -2,8 +2,8 @@
 use Rattle.std.proofs.Common.{◌≡◌, ◌≢◌, ◌≤◌, ◌<◌, ℕ, ◌+◌, ◌^◌, ◌⊎◌, inl, inr, List, [], ◌∷◌, length, refl, sym, ap, ◌∙◌, subst, arith, Option, Some, None}
 use Rattle.std.specs.Prelude.{slice_get, Contains}
 use Rattle.std.specs.Option.{option_map_or}
-use Rattle.std.proofs.lemmas.Option.{none-some, same_Some}
-use Rattle.elf_model.proofs.Elements.{contains_cases, contains_none}
+use Rattle.std.proofs.lemmas.Option.{none-some, same_Some, slice_get_within}
+use Rattle.elf_model.proofs.Elements.{contains_cases, contains_none, element_at}
 use Rattle.thumb_instr.specs.Fields.{ZeroBranchFields}
 use Rattle.thumb_instr.specs.declared.instructions.Instr.{Instr}
 use Rattle.thumb_instr.specs.declared.instructions.Instr.TheVariants as instr
@@ -16,13 +16,16 @@ use Rattle.seq_core.specs.declared.steps.Goal.TheVariants.{Nowhere, End, Landing
 use Rattle.seq_core.specs.declared.units.Unit.{Unit as SeqUnit}
 use Rattle.seq_core.specs.Builders.{HasRow}
 use Rattle.flow_recover.specs.declared.flows.PoolWord.{PoolWord}
+use Rattle.branch_layout.specs.Copies.{copies_of}
 use Rattle.branch_layout.specs.Widths.{IsLong}
-use Rattle.branch_layout.specs.Placings.{Stretch, Placing, places_of}
+use Rattle.branch_layout.specs.Placings.{Stretch, Placing, places_of, IsStretch}
 use Rattle.branch_layout.specs.Goals.{aimed, goal_of, placed_instr, Reaches, StepReaches, ReachesGoal}
 use Rattle.branch_layout.specs.Codes.{NumbersHaveCodes}
 use Rattle.branch_layout.specs.Given.{goals_of, CanLay}
 use Rattle.branch_layout.specs.Layouts.{ArePlaces}
 use Rattle.branch_layout.specs.Coding.{offset_of, IsCopy, CanCode, AllCanCode}
+use Rattle.branch_layout.specs.Reached.{GoalsAreReached}
+use Rattle.branch_layout.proofs.WithinFacts.{all_zip_at}
 use Rattle.branch_layout.proofs.GoalFacts.{end_low, end_reached, back_low, aims, is_long, landing_reached, zero_reached, target_found, word_found}
 
 one_of : (a g : Goal) → Contains (a ∷ []) g → a ≡ g
@@ -115,3 +118,11 @@ module _ (have : NumbersHaveCodes) (units : List SeqUnit) (words : List PoolWord
     reaches = λ j t w copy. step_reaches units words p given are k u s there placed few j t w copy;
     coded = λ j t w copy. step_coded units words p given are k u s there placed few j t w copy have;
   }
+
+pub goals_reached : GoalsAreReached
+goals_reached units words p given are k u s there placed few j t step n =
+    let is = all_zip_at IsStretch units p.units k u s are.placed.stretches there placed in
+    let count : length s.widths ≡ length (copies_of u.seq.steps) = is.count in
+    let lt : j < length (copies_of u.seq.steps) = slice_get_within (copies_of u.seq.steps) j t step in
+    let width = element_at s.widths j (omega arith) in
+    goal_reached units words p given are k u s there placed few j t width.0 (record { step = step; width = width.1 }) n

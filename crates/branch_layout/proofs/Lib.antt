@@ -13,3 +13,5 @@ pub mod StepCopies
 pub mod GoalFacts
 pub mod CodingFacts
 pub mod CodesFacts
+pub mod LeadingFacts
+pub mod BuiltFacts

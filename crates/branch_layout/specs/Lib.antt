@@ -8,3 +8,5 @@ pub mod Faults
 pub mod Layouts
 pub mod Standing
 pub mod Coding
+pub mod Reached
+pub mod Leading
