@@ -34,3 +34,4 @@ pub mod DataCells
 pub mod Beginning
 pub mod Told
 pub mod Existing
+pub mod Ordinals
