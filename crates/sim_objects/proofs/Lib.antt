@@ -35,3 +35,4 @@ pub mod Beginning
 pub mod Told
 pub mod Existing
 pub mod Ordinals
+pub mod Mapping

@@ -1,9 +1,9 @@
 -- A part of code has the number of its section among the code sections of its object, in both lists.
-use Rattle.std.specs.Prelude.{◌≡◌, ◌<◌, ◌≤◌, ℕ, zero, suc, ◌+◌, max, Bool, true, false, cond, List, [], ◌∷◌, length, take, count_by, Some, slice_get, Contains, refl}
+use Rattle.std.specs.Prelude.{◌≡◌, ◌≤◌, ℕ, zero, suc, ◌+◌, max, Bool, true, false, cond, List, [], ◌∷◌, length, take, count_by, Some, slice_get, Contains, refl}
 use Rattle.std.proofs.Common.{arith, inl, inr, ap, sym, ◌∙◌, subst}
 use Rattle.std.proofs.lemmas.Bool.{cases_Bool}
 use Rattle.std.proofs.lemmas.List.Elements.{Contains-append_cases}
-use Rattle.std.proofs.lemmas.Option.{none-some, same_Some}
+use Rattle.std.proofs.lemmas.Option.{same_Some}
 use Rattle.elf_model.specs.declared.objects.Section.{Section}
 use Rattle.elf_model.specs.Objects.{ObjectParts, is_code}
 use Rattle.elf_model.proofs.Elements.{contains_cases, contains_none, contains_here, contains_later}

@@ -9,6 +9,7 @@ ghost use Rattle.sim_objects.specs.Exits.{NothingAtExit};
 ghost use Rattle.sim_objects.specs.Following.{UnitsFollow};
 ghost use Rattle.sim_objects.specs.Linking.{ListsAreLinked};
 ghost use Rattle.sim_objects.specs.Living.{PointsLive, PointsSpare};
+ghost use Rattle.sim_objects.specs.Mapping.{ChartsFollowMaps};
 ghost use Rattle.sim_objects.specs.Meeting.{UnitsMeet};
 ghost use Rattle.sim_objects.specs.Moving.{EntriesAreCharted, LinksEnter, MovesAreCharted};
 ghost use Rattle.sim_objects.specs.Skipping.{AllMaySkip, UnitsKeepOut};
@@ -136,4 +137,9 @@ pub fn memories_meet()
 /// Calls of names start alike in both images.
 pub fn calls_begin()
     ensures { CallsBegin }
+{}
+
+/// The maps of the hardened objects take each entry and return address to where the chart does.
+pub fn charts_follow_maps()
+    ensures { ChartsFollowMaps }
 {}
