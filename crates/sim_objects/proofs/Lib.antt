@@ -36,3 +36,4 @@ pub mod Told
 pub mod Existing
 pub mod Ordinals
 pub mod Mapping
+pub mod Hardening

@@ -18,3 +18,4 @@ pub mod Together
 pub mod Beginning
 pub mod Existing
 pub mod Mapping
+pub mod Hardening

@@ -7,6 +7,7 @@ ghost use Rattle.sim_objects.specs.Even.{PlacesAreEven};
 ghost use Rattle.sim_objects.specs.Existing.{ListsHaveCharts};
 ghost use Rattle.sim_objects.specs.Exits.{NothingAtExit};
 ghost use Rattle.sim_objects.specs.Following.{UnitsFollow};
+ghost use Rattle.sim_objects.specs.Hardening.{ListsEndAlike};
 ghost use Rattle.sim_objects.specs.Linking.{ListsAreLinked};
 ghost use Rattle.sim_objects.specs.Living.{PointsLive, PointsSpare};
 ghost use Rattle.sim_objects.specs.Mapping.{ChartsFollowMaps};
@@ -142,4 +143,9 @@ pub fn calls_begin()
 /// The maps of the hardened objects take each entry and return address to where the chart does.
 pub fn charts_follow_maps()
     ensures { ChartsFollowMaps }
+{}
+
+/// Where control goes on as in the chart, calls of two lists of pairs end alike under their maps.
+pub fn lists_end_alike()
+    ensures { ListsEndAlike }
 {}
