@@ -37,3 +37,5 @@ pub mod Existing
 pub mod Ordinals
 pub mod Mapping
 pub mod Hardening
+pub mod MapsThere
+pub mod Promised

@@ -21,7 +21,7 @@ use Rattle.sim_objects.specs.Moving.{Stays, Enters, MovesAreCharted, EntriesAreC
 use Rattle.sim_objects.proofs.Parts.{start_is}
 
 -- what an element of a mapped list was
-got_map : {X Y : Type 0} (f : X → Y) (xs : List X) (i : ℕ) (y : Y) → slice_get (map f xs) i ≡ Some y → (x : X) × (slice_get xs i ≡ Some x) × (f x ≡ y)
+pub got_map : {X Y : Type 0} (f : X → Y) (xs : List X) (i : ℕ) (y : Y) → slice_get (map f xs) i ≡ Some y → (x : X) × (slice_get xs i ≡ Some x) × (f x ≡ y)
 got_map f [] i y e = absurd (none-some y e)
 got_map f (x ∷ xs) zero y e = (x, refl, same_Some (f x) y e)
 got_map f (x ∷ xs) (suc i) y e = got_map f xs i y e

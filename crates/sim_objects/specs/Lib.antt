@@ -19,3 +19,4 @@ pub mod Beginning
 pub mod Existing
 pub mod Mapping
 pub mod Hardening
+pub mod Promised

@@ -13,6 +13,7 @@ ghost use Rattle.sim_objects.specs.Living.{PointsLive, PointsSpare};
 ghost use Rattle.sim_objects.specs.Mapping.{ChartsFollowMaps};
 ghost use Rattle.sim_objects.specs.Meeting.{UnitsMeet};
 ghost use Rattle.sim_objects.specs.Moving.{EntriesAreCharted, LinksEnter, MovesAreCharted};
+ghost use Rattle.sim_objects.specs.Promised.{PairsHarden};
 ghost use Rattle.sim_objects.specs.Skipping.{AllMaySkip, UnitsKeepOut};
 ghost use Rattle.sim_objects.specs.Standing.{ChartsHavePoints, PointsStand};
 ghost use Rattle.sim_objects.specs.StandingUnits.{UnitsStand};
@@ -148,4 +149,10 @@ pub fn charts_follow_maps()
 /// Where control goes on as in the chart, calls of two lists of pairs end alike under their maps.
 pub fn lists_end_alike()
     ensures { ListsEndAlike }
+{}
+
+/// Hardened objects of lists of pairs are the objects, hardened, where lists that can be linked have images and control
+/// goes on in them as in charts.
+pub fn pairs_harden()
+    ensures { PairsHarden }
 {}
