@@ -34,3 +34,4 @@ pub mod DataCells
 pub mod Beginning
 pub mod Ordinals
 pub mod Mapping
+pub mod HavingMaps
