@@ -16,3 +16,4 @@ pub mod StandingUnits
 pub mod Skipping
 pub mod Together
 pub mod Beginning
+pub mod Mapping
