@@ -17,3 +17,5 @@ pub mod Loading
 pub mod LinkedUnits
 pub mod Skipping
 pub mod Together
+pub mod Ordinals
+pub mod Mapping

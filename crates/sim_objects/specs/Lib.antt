@@ -12,3 +12,4 @@ pub mod Answering
 pub mod StandingUnits
 pub mod Skipping
 pub mod Together
+pub mod Mapping

@@ -6,6 +6,7 @@ ghost use Rattle.sim_objects.specs.Exits.{NothingAtExit};
 ghost use Rattle.sim_objects.specs.Following.{UnitsFollow};
 ghost use Rattle.sim_objects.specs.Linking.{ListsAreLinked};
 ghost use Rattle.sim_objects.specs.Living.{PointsLive, PointsSpare};
+ghost use Rattle.sim_objects.specs.Mapping.{ChartsFollowMaps};
 ghost use Rattle.sim_objects.specs.Skipping.{AllMaySkip, UnitsKeepOut};
 ghost use Rattle.sim_objects.specs.Standing.{ChartsHavePoints, PointsStand};
 ghost use Rattle.sim_objects.specs.StandingUnits.{UnitsStand};
@@ -86,4 +87,9 @@ pub fn all_may_skip()
 /// Where the chart goes as control does and linking meets it, the units of a chart are linked.
 pub fn units_are_linked()
     ensures { UnitsAreLinked }
+{}
+
+/// The maps of the hardened objects take entries and returns of the chart to where the chart does.
+pub fn charts_follow_maps()
+    ensures { ChartsFollowMaps }
 {}
