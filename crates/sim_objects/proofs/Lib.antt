@@ -1,4 +1,13 @@
 pub mod Parts
+pub mod Reaching
+pub mod Moving
+pub mod Entering
+pub mod LinkedPoints
+pub mod Distances
+pub mod Leading
+pub mod PoolWords
+pub mod Numbering
+pub mod Meeting
 pub mod Apart
 pub mod Points
 pub mod Exits
@@ -6,6 +15,10 @@ pub mod Living
 pub mod Following
 pub mod Working
 pub mod Linking
+pub mod EvenStarts
+pub mod EvenPlain
+pub mod EvenUnits
+pub mod Even
 pub mod Walked
 pub mod Kept
 pub mod Puts
@@ -19,3 +32,5 @@ pub mod Skipping
 pub mod Together
 pub mod Ordinals
 pub mod Mapping
+pub mod DataCells
+pub mod Beginning
