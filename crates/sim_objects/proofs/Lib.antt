@@ -34,3 +34,5 @@ pub mod Ordinals
 pub mod Mapping
 pub mod DataCells
 pub mod Beginning
+pub mod Ordinals
+pub mod Mapping

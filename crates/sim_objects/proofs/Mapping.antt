@@ -1,177 +1,186 @@
--- The maps take an entry of a chart by the Start row of its point, and what a call returns to by its Return row.
-use Rattle.std.specs.Prelude.{◌≡◌, ◌<◌, ◌≤◌, ◌⊎◌, ℕ, suc, ◌+◌, ◌-◌, ◌%◌, ◌^◌, true, List, map, Some, slice_get, Contains, refl}
+-- The relations of addresses of a chart of lists are those of the maps of the hardened objects.
+use Rattle.std.specs.Prelude.{◌≡◌, ◌<◌, ◌≤◌, ℕ, zero, suc, ◌+◌, ◌-◌, ◌%◌, ◌^◌, ◌==◌, ◌&&◌, Bool, true, false, cond, List, [], ◌∷◌, Some, slice_get, Contains, refl}
 use Rattle.std.specs.List.{zip}
 use Rattle.std.proofs.Common.{arith, inl, inr, ap, sym, ◌∙◌, subst}
-use Rattle.std.proofs.lemmas.Option.{same_Some, slice_get_within}
+use Rattle.std.proofs.lemmas.Option.{none-some, same_Some, slice_get_within}
+use Rattle.elf_model.specs.declared.objects.Section.{Section}
 use Rattle.elf_model.specs.declared.objects.MapRow.{MapRow}
 use Rattle.elf_model.specs.declared.objects.RowKind.{RowKind}
 use Rattle.elf_model.specs.declared.objects.RowKind.TheVariants as row
-use Rattle.elf_model.specs.Objects.{ObjectParts, is_code}
+use Rattle.elf_model.specs.Constants.{progbits}
+use Rattle.elf_model.specs.Objects.{ObjectParts, is_code, is_alloc, is_exec, even}
+use Rattle.elf_model.proofs.Elements.{contains_here, contains_later, found, map_contains}
 use Rattle.elf_model.proofs.Lists.{get_map}
-use Rattle.elf_model.proofs.Elements.{contains_at, map_contains, found}
 use Rattle.thumb_table.specs.declared.placements.Placement.{Placement}
 use Rattle.thumb_table.specs.declared.parts.Part.{Part}
 use Rattle.thumb_table.specs.Parts.{Image}
 use Rattle.thumb_table.specs.Layouts.{Placed, all_placed, as_part}
-use Rattle.thumb_table.specs.Images.{IsImage, even}
+use Rattle.thumb_table.specs.Images.{IsImage}
+use Rattle.flow_recover.specs.declared.flows.Exit.{Exit}
 use Rattle.flow_recover.specs.declared.flows.Point.{Point as FlowPoint}
-use Rattle.flow_recover.specs.declared.flows.Exit.TheVariants.{Call}
 use Rattle.flow_recover.specs.Points.{end_of}
-use Rattle.hardened_form.specs.Places.{UnitPlace}
-use Rattle.hardened_form.specs.Standing.{units}
 use Rattle.hardened_form.specs.Rows.{ordinal, IsRow, starts, returns}
+use Rattle.hardened_form.specs.Sections.{IsNewSection}
+use Rattle.hardened_form.specs.Standing.{units}
+use Rattle.sim_charts.specs.Charts.{Chart, Point, Call}
+use Rattle.sim_charts.specs.Alike.{EntryTo, ReturnTo}
+use Rattle.sim_flows.proofs.Living.{call_is}
 use Rattle.sim_images.specs.ImageLaws.{Here}
 use Rattle.sim_images.proofs.PartFacts.{part_is}
-use Rattle.sim_charts.specs.Charts.{Chart, Point}
-use Rattle.sim_charts.specs.Alike.{EntryTo, BackOf, ReturnTo}
-use Rattle.sim_flows.proofs.Living.{call_is}
-use Rattle.sim_relation.specs.AddressMaps.{Holds, RowTakes, TakesEntry, TakesReturn}
+use Rattle.sim_relation.specs.AddressMaps.{RowTakes, TakesEntry, TakesReturn}
 use Rattle.sim_objects.specs.Lists.{Pairing, plains, hards, HaveImages}
 use Rattle.sim_objects.specs.Charts.{start_at, address_in, width_of, back_of, IsPointAt, IsChartOf}
-use Rattle.sim_objects.specs.Mapping.{maps_of, AreEven, ChartsFollowMaps}
-use Rattle.sim_objects.proofs.Apart.{some_width, points_lie_low}
-use Rattle.sim_objects.proofs.Kept.{get_zip}
-use Rattle.sim_objects.proofs.Ordinals.{code_ordinal, ordinal_stays}
-use Rattle.sim_objects.proofs.Parts.{start_is, address_is, plain_there, hard_there, in_plain, in_hard, done_is}
+use Rattle.sim_objects.specs.Mapping.{maps_of, ChartsFollowMaps}
+use Rattle.sim_objects.proofs.Parts.{PlainPart, HardPart, in_plain, in_hard, start_is, done_is}
+use Rattle.sim_objects.proofs.Apart.{points_lie_low}
+use Rattle.sim_objects.proofs.Even.{places_are_even}
+use Rattle.sim_objects.proofs.Moving.{address_there}
+use Rattle.sim_objects.proofs.Ordinals.{part_ordinal, same_ordinal}
 
--- a part of an image
-part_listed : (objects : List ObjectParts) (at : Placement) (image : Image) → IsImage objects at image → (i j : ℕ) (o : ObjectParts) (p : Placed) → Here objects at i o j p → Contains image.parts (as_part p)
-part_listed objects at image is i j o p here =
-    subst (λ (l : List Part). Contains l (as_part p)) (sym is.parts) (map_contains as_part (all_placed objects at) p (found _ (all_placed objects at) p here.part).0)
+zip_has : {A B : Type 0} (xs : List A) (ys : List B) (n : ℕ) (x : A) (y : B) → slice_get xs n ≡ Some x → slice_get ys n ≡ Some y → Contains (zip xs ys) (x, y)
+zip_has [] ys n x y e f = absurd (none-some x e)
+zip_has (a ∷ xs) [] n x y e f = absurd (none-some y f)
+zip_has (a ∷ xs) (b ∷ ys) zero x y e f =
+    subst (λ (z : _). Contains ((a, b) ∷ zip xs ys) (z, y)) (same_Some a x e) (subst (λ (z : _). Contains ((a, b) ∷ zip xs ys) (a, z)) (same_Some b y f) (contains_here (a, b) (zip xs ys)))
+zip_has (a ∷ xs) (b ∷ ys) (suc n) x y e f = contains_later (a, b) (zip xs ys) (x, y) (zip_has xs ys n x y e f)
 
--- an even number, and the odd one behind it
-even_of : (a : ℕ) → a % 2 ≡ 0 → (even (a + 1) ≡ a) × ((a + 1) % 2 ≡ 1)
-even_of a e = (omega arith, omega arith)
+same_code : (o : ObjectParts) (j : ℕ) (s t : Section) → IsNewSection o j s t → is_code t ≡ is_code s
+same_code o j s t h = ap (λ (n : ℕ). (n == progbits) && is_alloc t.flags && is_exec t.flags) h.kind ∙ ap (λ (n : ℕ). (s.kind == progbits) && is_alloc n && is_exec n) h.flags
 
-gives_of : (b : ℕ) → b % 2 ≡ 0 → b < 2 ^ 32 → even (b % 2 ^ 32) ≡ b
-gives_of b e low = omega arith
+-- a part is one of the image's
+listed : (objects : List ObjectParts) (at : Placement) (image : Image) → IsImage objects at image → (i j : ℕ) (o : ObjectParts) (p : Placed) → Here objects at i o j p → Contains image.parts (as_part p)
+listed objects at image is i j o p here =
+    let f = found (λ (q : Placed). (q.object == i) && (q.index == j)) (all_placed objects at) p here.part in
+    subst (λ (ps : List Part). Contains ps (as_part p)) (sym is.parts) (map_contains as_part (all_placed objects at) p f.0)
 
-module _ (F c K : ℕ) (pairs : List (Pairing F c K)) (at : Placement) (plain hard : Image) (images : HaveImages F c K pairs at plain hard) where
-  module _ (a : ℕ) (p : Point) (A : IsPointAt F c K pairs at a p) where
-    -- the parts of the point and of its unit, and what a row of the object's map takes
-    pub record PointParts : Type 0 where
-      pub part : Placed
-      pub here : Here (plains pairs) at A.file A.pairing.plain A.point.section part
-      pub code : is_code part.section ≡ true
-      pub inside : A.point.offset + width_of A.point ≤ part.section.size
-      pub from : a ≡ part.start + A.point.offset
-      pub place : Placed
-      pub there : Here (hards pairs) at A.file A.pairing.hard A.point.section place
-      pub coded : is_code place.section ≡ true
-      pub start : start_at (hards pairs) at A.file A.point.section ≡ place.start
+gives_is : (n m h a : ℕ) → n ≡ m → h ≡ m + 1 → m % 2 ≡ 0 → m < 2 ^ 32 → a % 2 ≡ 1 → h ≡ even (n % 2 ^ 32) + a % 2
+gives_is n m h a e f level low odd = omega (arith, e, f, level, low, odd)
 
-    pub point_parts : PointParts
-    point_parts =
-        let is = A.is in
-        let pa = in_plain F c K pairs at plain hard images A.file A.number A.pairing A.point A.is_pair A.is_point p.it is.state in
-        let done = done_is F c K pairs at plain hard images A.file A.number A.pairing A.point A.is_pair A.is_point is.unit is.sequence is.placed is.done in
-        let ha = in_hard F c K pairs at plain hard images A.file A.number A.pairing A.point A.is_pair A.is_point p.it is.unit.start is.state done.inside in
-        record {
-          part = pa.part;
-          here = pa.here;
-          code = pa.code;
-          inside = pa.inside;
-          from = A.address ∙ address_is F c K pairs at plain hard images A.file A.number A.pairing A.point A.is_pair A.is_point
-              ∙ ap (λ (s : ℕ). s + A.point.offset) (start_is (plains pairs) at A.file A.point.section A.pairing.plain pa.part pa.here);
-          place = ha.part;
-          there = ha.here;
-          coded = ha.code;
-          start = start_is (hards pairs) at A.file A.point.section A.pairing.hard ha.part ha.here;
-        }
+module _ (F c K : ℕ) (pairs : List (Pairing F c K)) (at : Placement) (plain hard : Image) (images : HaveImages F c K pairs at plain hard) (chart : Chart) (is : IsChartOf F c K pairs at chart)
+    (a : ℕ) (p : Point) (there : chart a ≡ Some p) (A : IsPointAt F c K pairs at a p) where
+  abbrev part : PlainPart (plains pairs) at A.file A.pairing.plain A.point p.it
+  part = in_plain F c K pairs at plain hard images A.file A.number A.pairing A.point A.is_pair A.is_point p.it A.is.state
 
-    pub row_takes : (d : PointParts) (kind : RowKind) (byte k old new from to : ℕ) → k < d.part.section.size → byte ≡ d.part.start + k
-        → IsRow A.pairing.plain A.pairing.pair.flow A.pairing.pair.certificate.places (record { section = ordinal A.pairing.plain A.point.section; old = old; new = new; kind = kind })
-        → d.part.start + old ≡ even from → to ≡ even ((d.place.start + new) % 2 ^ 32) + from % 2 → RowTakes plain hard (maps_of pairs) kind byte from to
-    row_takes d kind byte k old new from to less where_it is place gives =
-        let file = (part_is (plains pairs) at A.file A.point.section d.part d.here.part).file in
-        let twin = (part_is (hards pairs) at A.file A.point.section d.place d.there.part).file in
-        let number = code_ordinal (plains pairs) at A.file A.point.section A.pairing.plain d.part d.here d.code in
-        let other = code_ordinal (hards pairs) at A.file A.point.section A.pairing.hard d.place d.there d.coded in
-        let stays =
-        ordinal_stays A.pairing.plain A.pairing.hard A.pairing.pair.form.rows A.pairing.pair.form.tables.sections A.point.section (slice_get_within A.pairing.plain.sections A.point.section d.part.section d.here.section) in
-        record {
-          old_part = as_part d.part;
-          holds = record {
-            there = part_listed (plains pairs) at plain images.image A.file A.point.section A.pairing.plain d.part d.here;
-            code = d.code;
-            from = omega (arith, where_it);
-            below = omega (arith, where_it, less);
-          };
-          rows = A.pairing.pair.form.rows;
-          map = ap (slice_get (maps_of pairs)) file ∙ get_map (λ (q : Pairing F c K). q.pair.form.rows) pairs A.file A.pairing A.is_pair;
-          row = record { section = ordinal A.pairing.plain A.point.section; old = old; new = new; kind = kind };
-          listed = (A.pairing.pair.form.tables.map.exact (record { section = ordinal A.pairing.plain A.point.section; old = old; new = new; kind = kind })).1 is;
-          of_section = sym number;
-          of_kind = refl;
-          of_place = place;
-          new_part = as_part d.place;
-          there = part_listed (hards pairs) at hard images.hard_image A.file A.point.section A.pairing.hard d.place d.there;
-          code = d.coded;
-          of_object = twin ∙ sym file;
-          of_ordinal = other ∙ (stays ∙ sym number);
-          gives = gives;
-        }
+  abbrev place : HardPart (hards pairs) at A.file A.pairing.hard A.point.section
+  place =
+      in_hard F c K pairs at plain hard images A.file A.number A.pairing A.point A.is_pair A.is_point p.it A.is.unit.start A.is.state
+      (done_is F c K pairs at plain hard images A.file A.number A.pairing A.point A.is_pair A.is_point A.is.unit A.is.sequence A.is.placed A.is.done).inside
 
-    unit_there : Contains (units A.pairing.pair.flow A.pairing.pair.certificate.places) (A.point, A.is.unit)
-    unit_there =
-        contains_at (zip A.pairing.pair.flow.points A.pairing.pair.certificate.places.units) A.number (A.point, A.is.unit)
-        (get_zip A.pairing.pair.flow.points A.pairing.pair.certificate.places.units A.number A.point A.is.unit A.is_point A.is.placed)
+  from : a ≡ part.part.start + A.point.offset
+  from =
+      A.address
+      ∙ (address_there (plains pairs) at A.file A.number A.point.section A.point.offset A.pairing.pair.flow (record { point = A.point; there = A.is_point; section = refl; offset = refl })
+      ∙ ap (λ (k : ℕ). k + A.point.offset) (start_is (plains pairs) at A.file A.point.section A.pairing.plain part.part part.here))
 
-    pub entry_taken : a % 2 ≡ 0 → p.place % 2 ≡ 0 → p.place < 0x7FFFF000 → RowTakes plain hard (maps_of pairs) row.Start (even (a + 1)) (a + 1) (p.place + 1)
-    entry_taken level flat low =
-        let d = point_parts in
-        let e = even_of a level in
-        let ev = e.0 in
-        let odd = e.1 in
-        let from = d.from in
-        let inside = d.inside in
-        let some = some_width A.point in
-        let place = A.is.place in
-        let start = d.start in
-        let new : p.place ≡ d.place.start + A.is.unit.start = omega (arith, place, start) in
-        let gives : even ((d.place.start + A.is.unit.start) % 2 ^ 32) ≡ p.place = ap (λ (n : ℕ). even (n % 2 ^ 32)) (sym new) ∙ gives_of p.place flat (omega (arith, low)) in
-        row_takes d row.Start (even (a + 1)) A.point.offset A.point.offset A.is.unit.start (a + 1) (p.place + 1) (omega (arith, inside, some)) (ev ∙ from)
-        (starts A.point A.is.unit unit_there) (omega (arith, ev, from)) (omega (arith, gives, odd))
+  to : start_at (hards pairs) at A.file A.point.section ≡ place.part.start
+  to = start_is (hards pairs) at A.file A.point.section A.pairing.hard place.part place.here
 
-    pub return_taken : p.way ≡ Call → a % 2 ≡ 0 → p.back % 2 ≡ 0 → p.back ≤ 0x7FFFF000 → ((p.width ≡ 2) ⊎ (p.width ≡ 4)) → TakesReturn plain hard (maps_of pairs) (a + p.width + 1) (p.back + 1)
-    return_taken call level flat low sizes =
-        let d = point_parts in
-        let exit = call_is (address_in (plains pairs) at A.file A.pairing.pair.flow) A.point.exit (sym A.is.way ∙ call) in
-        let width = A.is.width in
-        let some = some_width A.point in
-        let behind : (a + p.width) % 2 ≡ 0 = elim sizes [ inl w ↦ omega (arith, w, level) | inr w ↦ omega (arith, w, level) ] in
-        let e = even_of (a + p.width) behind in
-        let ev = e.0 in
-        let odd = e.1 in
-        let from = d.from in
-        let inside = d.inside in
-        let start = d.start in
-        let back : p.back ≡ start_at (hards pairs) at A.file A.point.section + A.is.unit.back = A.is.back ∙ ap (λ (w : _). start_at (hards pairs) at A.file A.point.section + back_of w A.is.unit) exit in
-        let new : p.back ≡ d.place.start + A.is.unit.back = omega (arith, back, start) in
-        let gives : even ((d.place.start + A.is.unit.back) % 2 ^ 32) ≡ p.back = ap (λ (n : ℕ). even (n % 2 ^ 32)) (sym new) ∙ gives_of p.back flat (omega (arith, low)) in
-        inr (a + p.width - 1, omega (arith, ev, some, width),
-        row_takes d row.Return (a + p.width - 1) (A.point.offset + width_of A.point - 1) (end_of A.point) A.is.unit.back (a + p.width + 1) (p.back + 1) (omega (arith, inside, some)) (omega (arith, from, width, some))
-        (returns A.point A.is.unit unit_there exit) (omega (arith, ev, from, width)) (omega (arith, gives, odd)))
+  -- code sections keep their numbers
+  ordinals : place.part.ordinal ≡ part.part.ordinal
+  ordinals =
+      part_ordinal (hards pairs) at A.file A.point.section A.pairing.hard place.part place.here place.code
+      ∙ (same_ordinal is_code A.pairing.plain.sections A.pairing.hard.sections A.point.section
+      (less (slice_get_within A.pairing.plain.sections A.point.section part.part.section part.here.section)) (less (slice_get_within A.pairing.hard.sections A.point.section place.part.section place.here.section))
+      (λ k s t e f. same_code A.pairing.plain k s t (A.pairing.pair.form.tables.sections.each k s t e f))
+      ∙ sym (part_ordinal (plains pairs) at A.file A.point.section A.pairing.plain part.part part.here part.code))
+    where
+      less : {n m : ℕ} → n < m → n ≤ m
+      less lt = omega (arith, lt)
+
+  its_unit : Contains (units A.pairing.pair.flow A.pairing.pair.certificate.places) (A.point, A.is.unit)
+  its_unit = zip_has A.pairing.pair.flow.points A.pairing.pair.certificate.places.units A.number A.point A.is.unit A.is_point A.is.placed
+
+  row_takes : (kind : RowKind) (old new byte w b : ℕ)
+      → IsRow A.pairing.plain A.pairing.pair.flow A.pairing.pair.certificate.places (record { section = ordinal A.pairing.plain A.point.section; old = old; new = new; kind = kind })
+      → part.part.start ≤ byte → byte < part.part.start + part.part.section.size → part.part.start + old ≡ even w → b ≡ even ((place.part.start + new) % 2 ^ 32) + w % 2
+      → RowTakes plain hard (maps_of pairs) kind byte w b
+  row_takes kind old new byte w b is_row low high of_place gives =
+      let file : part.part.object ≡ A.file = (part_is (plains pairs) at A.file A.point.section part.part part.here.part).file in
+      let hard_file : place.part.object ≡ A.file = (part_is (hards pairs) at A.file A.point.section place.part place.here.part).file in
+      let r : MapRow = record { section = ordinal A.pairing.plain A.point.section; old = old; new = new; kind = kind } in
+      record {
+        old_part = as_part part.part;
+        holds = record { there = listed (plains pairs) at plain images.image A.file A.point.section A.pairing.plain part.part part.here; code = part.code; from = low; below = high };
+        rows = A.pairing.pair.form.rows;
+        map = ap (λ (n : ℕ). slice_get (maps_of pairs) n) file ∙ get_map (λ (q : Pairing F c K). q.pair.form.rows) pairs A.file A.pairing A.is_pair;
+        row = r;
+        listed = (A.pairing.pair.form.tables.map.exact r).1 is_row;
+        of_section = sym (part_ordinal (plains pairs) at A.file A.point.section A.pairing.plain part.part part.here part.code);
+        of_kind = refl;
+        of_place = of_place;
+        new_part = as_part place.part;
+        there = listed (hards pairs) at hard images.hard_image A.file A.point.section A.pairing.hard place.part place.here;
+        code = place.code;
+        of_object = hard_file ∙ sym file;
+        of_ordinal = ordinals;
+        gives = gives;
+      }
+
+  width_more : (x : FlowPoint) → 2 ≤ width_of x
+  width_more x = go x.wide
+    where
+      go : (b : Bool) → 2 ≤ cond b 4 2
+      go true = omega arith
+      go false = omega arith
+
+  width_even : (x : FlowPoint) → width_of x % 2 ≡ 0
+  width_even x = go x.wide
+    where
+      go : (b : Bool) → cond b 4 2 % 2 ≡ 0
+      go true = refl
+      go false = refl
+
+  -- an entry goes by the Start row of its point
+  entry_takes : (w b : ℕ) → w ≡ a + 1 → b ≡ p.place + 1 → RowTakes plain hard (maps_of pairs) row.Start (even w) w b
+  entry_takes w b e f =
+      let evens = places_are_even F c K pairs at plain hard chart images is a p there in
+      let low = (points_lie_low F c K pairs at plain hard chart images is a p there).place in
+      let level = evens.0 in
+      let here = from in
+      let inside = part.inside in
+      let wide = width_more A.point in
+      let back : even w ≡ a = omega (arith, e, level) in
+      let odd : w % 2 ≡ 1 = omega (arith, e, level) in
+      let at_place : place.part.start + A.is.unit.start ≡ p.place = ap (λ (k : ℕ). k + A.is.unit.start) (sym to) ∙ sym A.is.place in
+      row_takes row.Start A.point.offset A.is.unit.start (even w) w b (starts A.point A.is.unit its_unit) (omega (arith, back, here)) (omega (arith, back, here, inside, wide)) (sym (back ∙ here))
+      (gives_is (place.part.start + A.is.unit.start) p.place b w at_place f evens.1 (omega (arith, low)) odd)
+
+  -- a return address goes by the Return row of its call
+  return_takes : (w b : ℕ) → p.way ≡ Call → w ≡ a + p.width + 1 → b ≡ p.back + 1 → (byte : ℕ) × (byte + 1 ≡ even w) × RowTakes plain hard (maps_of pairs) row.Return byte w b
+  return_takes w b call e f =
+      let evens = places_are_even F c K pairs at plain hard chart images is a p there in
+      let low = (points_lie_low F c K pairs at plain hard chart images is a p there).back in
+      let level = evens.0 in
+      let here = from in
+      let inside = part.inside in
+      let wide = width_more A.point in
+      let even_wide = width_even A.point in
+      let width : p.width ≡ width_of A.point = A.is.width in
+      let exit = call_is (address_in (plains pairs) at A.file A.pairing.pair.flow) A.point.exit (sym A.is.way ∙ call) in
+      let back : even w ≡ a + width_of A.point = omega (arith, e, level, width, even_wide) in
+      let odd : w % 2 ≡ 1 = omega (arith, e, level, width, even_wide) in
+      let at_back : place.part.start + A.is.unit.back ≡ p.back = ap (λ (k : ℕ). k + A.is.unit.back) (sym to) ∙ sym (A.is.back ∙ ap (λ (z : Exit). start_at (hards pairs) at A.file A.point.section + back_of z A.is.unit) exit) in
+      let byte : ℕ = a + width_of A.point - 1 in
+      let next : byte + 1 ≡ even w = omega (arith, back, wide) in (
+        byte,
+        next,
+        row_takes row.Return (end_of A.point) A.is.unit.back byte w b (returns A.point A.is.unit its_unit exit) (omega (arith, here, wide)) (omega (arith, here, inside, wide)) (ends ∙ sym back)
+            (gives_is (place.part.start + A.is.unit.back) p.back b w at_back f evens.2 (omega (arith, low)) odd),
+      )
+    where
+      ends : part.part.start + end_of A.point ≡ a + width_of A.point
+      ends = let here = from in omega (arith, here)
+
+module _ (F c K : ℕ) (pairs : List (Pairing F c K)) (at : Placement) (plain hard : Image) (images : HaveImages F c K pairs at plain hard) (chart : Chart) (is : IsChartOf F c K pairs at chart) where
+  entries : (w b : ℕ) → EntryTo chart w b → TakesEntry plain hard (maps_of pairs) w b
+  entries w b (a, p, there, entry, e, f) = inr (entry_takes F c K pairs at plain hard images chart is a p there (is.only a p there) w b e f)
+
+  returning : (w b : ℕ) → ReturnTo chart w b → TakesReturn plain hard (maps_of pairs) w b
+  returning w b (inl ends) = inl ends
+  returning w b (inr (a, p, there, call, e, f)) = inr (return_takes F c K pairs at plain hard images chart is a p there (is.only a p there) w b call e f)
 
 pub charts_follow_maps : ChartsFollowMaps
-charts_follow_maps F c K pairs at plain hard chart images is even_all = record {
-  entries = λ a h e. entry a h e;
-  returns = λ a h r. elim r [
-    | inl end ↦ inl end
-    | inr b ↦ back a h b
-  ];
+charts_follow_maps F c K pairs at plain hard chart images is = record {
+  entries = entries F c K pairs at plain hard images chart is;
+  returns = returning F c K pairs at plain hard images chart is;
 }
-  where
-    entry : (a h : ℕ) → EntryTo chart a h → TakesEntry plain hard (maps_of pairs) a h
-    entry a h (e, p, there, is_entry, from, to) =
-        let level = even_all e p there in
-        let low = points_lie_low F c K pairs at plain hard chart images is e p there in
-        subst (λ (x : ℕ). TakesEntry plain hard (maps_of pairs) x h) (sym from) (subst (λ (y : ℕ). TakesEntry plain hard (maps_of pairs) (e + 1) y) (sym to)
-        (inr (entry_taken F c K pairs at plain hard images e p (is.only e p there) level.0 level.1 low.place)))
-
-    back : (a h : ℕ) → BackOf chart a h → TakesReturn plain hard (maps_of pairs) a h
-    back a h (e, p, there, call, from, to) =
-        let level = even_all e p there in
-        let low = points_lie_low F c K pairs at plain hard chart images is e p there in
-        subst (λ (x : ℕ). TakesReturn plain hard (maps_of pairs) x h) (sym from) (subst (λ (y : ℕ). TakesReturn plain hard (maps_of pairs) (e + p.width + 1) y) (sym to)
-        (return_taken F c K pairs at plain hard images e p (is.only e p there) call level.0 level.2 low.back low.width))

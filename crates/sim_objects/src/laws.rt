@@ -137,3 +137,8 @@ pub fn memories_meet()
 pub fn calls_begin()
     ensures { CallsBegin }
 {}
+
+/// What a chart takes for addresses of code, the maps of the hardened objects take.
+pub fn charts_follow_maps()
+    ensures { ChartsFollowMaps }
+{}
