@@ -34,5 +34,4 @@ pub mod Ordinals
 pub mod Mapping
 pub mod DataCells
 pub mod Beginning
-pub mod Ordinals
-pub mod Mapping
+pub mod Growth

@@ -17,4 +17,4 @@ pub mod Skipping
 pub mod Together
 pub mod Mapping
 pub mod Beginning
-pub mod Mapping
+pub mod Growth

@@ -6,6 +6,7 @@ ghost use Rattle.sim_objects.specs.Beginning.{CallsBegin, MemoriesMeet, NamesEnt
 ghost use Rattle.sim_objects.specs.Even.{PlacesAreEven};
 ghost use Rattle.sim_objects.specs.Exits.{NothingAtExit};
 ghost use Rattle.sim_objects.specs.Following.{UnitsFollow};
+ghost use Rattle.sim_objects.specs.Growth.{PairsAreShort};
 ghost use Rattle.sim_objects.specs.Linking.{ListsAreLinked};
 ghost use Rattle.sim_objects.specs.Living.{PointsLive, PointsSpare};
 ghost use Rattle.sim_objects.specs.Mapping.{ChartsFollowMaps};
@@ -118,11 +119,6 @@ pub fn units_are_linked()
     ensures { UnitsAreLinked }
 {}
 
-/// The maps of the hardened objects take entries and returns of the chart to where the chart does.
-pub fn charts_follow_maps()
-    ensures { ChartsFollowMaps }
-{}
-
 /// A name that can be called is that of an entry of the chart.
 pub fn names_enter()
     ensures { NamesEnter }
@@ -141,4 +137,9 @@ pub fn calls_begin()
 /// What a chart takes for addresses of code, the maps of the hardened objects take.
 pub fn charts_follow_maps()
     ensures { ChartsFollowMaps }
+{}
+
+/// No code section of a hardened object is longer than 32 times its plain one, for two copies.
+pub fn pairs_are_short()
+    ensures { PairsAreShort }
 {}
