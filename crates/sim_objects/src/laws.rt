@@ -6,6 +6,7 @@ ghost use Rattle.sim_objects.specs.Beginning.{CallsBegin, MemoriesMeet, NamesEnt
 ghost use Rattle.sim_objects.specs.Even.{PlacesAreEven};
 ghost use Rattle.sim_objects.specs.Exits.{NothingAtExit};
 ghost use Rattle.sim_objects.specs.Following.{UnitsFollow};
+ghost use Rattle.sim_objects.specs.Growth.{PairsAreShort};
 ghost use Rattle.sim_objects.specs.Linking.{ListsAreLinked};
 ghost use Rattle.sim_objects.specs.Living.{PointsLive, PointsSpare};
 ghost use Rattle.sim_objects.specs.Mapping.{ChartsFollowMaps, PairsHaveMaps};
@@ -141,4 +142,9 @@ pub fn charts_follow_maps()
 /// A hardened object has its map.
 pub fn pairs_have_maps()
     ensures { PairsHaveMaps }
+{}
+
+/// No code section of a hardened object is longer than 32 times its plain one, for two copies.
+pub fn pairs_are_short()
+    ensures { PairsAreShort }
 {}
