@@ -15,8 +15,9 @@ pub mod Answering
 pub mod StandingUnits
 pub mod Skipping
 pub mod Together
-pub mod Beginning
-pub mod Existing
 pub mod Mapping
+pub mod Beginning
+pub mod Growth
+pub mod Existing
 pub mod Hardening
 pub mod Promised

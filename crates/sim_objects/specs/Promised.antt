@@ -1,7 +1,8 @@
 -- That hardened objects of lists are the objects, hardened, and what of that is not proved of pairs alone.
-use Rattle.std.specs.Prelude.{◌≡◌, ◌≢◌, ◌≤◌, ℕ, List, All, Some, slice_get}
+use Rattle.std.specs.Prelude.{◌≡◌, ◌<◌, ◌≤◌, ◌^◌, ℕ, false, List, length, Some, slice_get}
 use Rattle.elf_model.specs.declared.objects.Section.{Section}
-use Rattle.elf_model.specs.Maps.{map_name, RowFits}
+use Rattle.elf_model.specs.Maps.{is_map_named}
+use Rattle.elf_model.specs.Objects.{ObjectParts, code_size}
 use Rattle.thumb_table.specs.declared.placements.Placement.{Placement}
 use Rattle.thumb_table.specs.Parts.{Image}
 use Rattle.thumb_table.specs.Layouts.{IsPlacement}
@@ -11,13 +12,18 @@ use Rattle.sim_relation.specs.Hardened.{Hardened}
 use Rattle.sim_objects.specs.Lists.{Pairing, plains, hards, HaveImages}
 use Rattle.sim_objects.specs.Hardening.{AllSkip, ControlGoesOn}
 
--- Lists that are paired in all units: no section of an object has the name of a map, and the numbers of the rows fit words.
+-- an object with few sections and little code, of which no section has the name of a map
+pub record IsInput (o : ObjectParts) : Type 0 where
+  pub few : length o.sections < 2 ^ 32
+  pub small : code_size o.sections ≤ 2 ^ 24
+  pub unnamed : (j : ℕ) (s : Section) → slice_get o.sections j ≡ Some s → is_map_named s ≡ false
+
+-- such objects and their hardened forms, paired in all units
 pub record AreInputs (F : ℕ) (pairs : List (Pairing F 2 4)) : Type 0 where
   pub objects : AreObjects (plains pairs)
   pub forms : AreObjects (hards pairs)
   pub all : AllSkip pairs
-  pub unnamed : (i : ℕ) (q : Pairing F 2 4) → slice_get pairs i ≡ Some q → All (λ (s : Section). s.name ≢ map_name) q.plain.sections
-  pub fit : (i : ℕ) (q : Pairing F 2 4) → slice_get pairs i ≡ Some q → All RowFits q.pair.form.rows
+  pub each : (i : ℕ) (q : Pairing F 2 4) → slice_get pairs i ≡ Some q → IsInput q.plain
 
 -- Where nothing stands in the way of an image there is one.
 abbrev pub HasImage : Type 0

@@ -7,10 +7,11 @@ ghost use Rattle.sim_objects.specs.Even.{PlacesAreEven};
 ghost use Rattle.sim_objects.specs.Existing.{ListsHaveCharts};
 ghost use Rattle.sim_objects.specs.Exits.{NothingAtExit};
 ghost use Rattle.sim_objects.specs.Following.{UnitsFollow};
+ghost use Rattle.sim_objects.specs.Growth.{PairsAreShort};
 ghost use Rattle.sim_objects.specs.Hardening.{ListsEndAlike};
 ghost use Rattle.sim_objects.specs.Linking.{ListsAreLinked};
 ghost use Rattle.sim_objects.specs.Living.{PointsLive, PointsSpare};
-ghost use Rattle.sim_objects.specs.Mapping.{ChartsFollowMaps};
+ghost use Rattle.sim_objects.specs.Mapping.{ChartsFollowMaps, PairsHaveMaps};
 ghost use Rattle.sim_objects.specs.Meeting.{UnitsMeet};
 ghost use Rattle.sim_objects.specs.Moving.{EntriesAreCharted, LinksEnter, MovesAreCharted};
 ghost use Rattle.sim_objects.specs.Promised.{PairsHarden};
@@ -141,9 +142,19 @@ pub fn calls_begin()
     ensures { CallsBegin }
 {}
 
-/// The maps of the hardened objects take each entry and return address to where the chart does.
+/// What a chart takes for addresses of code, the maps of the hardened objects take.
 pub fn charts_follow_maps()
     ensures { ChartsFollowMaps }
+{}
+
+/// A hardened object has its map.
+pub fn pairs_have_maps()
+    ensures { PairsHaveMaps }
+{}
+
+/// No code section of a hardened object is longer than 32 times its plain one, for two copies.
+pub fn pairs_are_short()
+    ensures { PairsAreShort }
 {}
 
 /// Where control goes on as in the chart, calls of two lists of pairs end alike under their maps.
