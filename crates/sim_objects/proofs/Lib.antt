@@ -40,3 +40,4 @@ pub mod Told
 pub mod Existing
 pub mod Hardening
 pub mod Promised
+pub mod PairedLists

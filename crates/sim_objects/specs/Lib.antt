@@ -21,3 +21,4 @@ pub mod Growth
 pub mod Existing
 pub mod Hardening
 pub mod Promised
+pub mod PairedLists

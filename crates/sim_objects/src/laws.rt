@@ -14,6 +14,7 @@ ghost use Rattle.sim_objects.specs.Living.{PointsLive, PointsSpare};
 ghost use Rattle.sim_objects.specs.Mapping.{ChartsFollowMaps, PairsHaveMaps};
 ghost use Rattle.sim_objects.specs.Meeting.{UnitsMeet};
 ghost use Rattle.sim_objects.specs.Moving.{EntriesAreCharted, LinksEnter, MovesAreCharted};
+ghost use Rattle.sim_objects.specs.PairedLists.{PairedListsHarden};
 ghost use Rattle.sim_objects.specs.Promised.{PairsHarden};
 ghost use Rattle.sim_objects.specs.Skipping.{AllMaySkip, UnitsKeepOut};
 ghost use Rattle.sim_objects.specs.Standing.{ChartsHavePoints, PointsStand};
@@ -166,4 +167,9 @@ pub fn lists_end_alike()
 /// goes on in them as in charts.
 pub fn pairs_harden()
     ensures { PairsHarden }
+{}
+
+/// So two lists of objects that are paired one by one, each with a factor of at most F, are hardened.
+pub fn paired_lists_harden()
+    ensures { PairedListsHarden }
 {}
