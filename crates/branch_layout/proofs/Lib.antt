@@ -15,3 +15,4 @@ pub mod CodingFacts
 pub mod CodesFacts
 pub mod LeadingFacts
 pub mod BuiltFacts
+pub mod OnePlacing

@@ -9,4 +9,5 @@ pub mod Layouts
 pub mod Standing
 pub mod Coding
 pub mod Reached
+pub mod Once
 pub mod Leading

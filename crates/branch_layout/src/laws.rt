@@ -1,6 +1,7 @@
 //! Laws of layouts. The functions do nothing: their contracts are the laws.
 
 ghost use Rattle.branch_layout.specs.Codes.{NumbersHaveCodes};
+ghost use Rattle.branch_layout.specs.Once.{PlacingsAreOne};
 ghost use Rattle.branch_layout.specs.Reached.{GoalsAreReached};
 ghost use Rattle.branch_layout.specs.Leading.{BuiltLead, GuardedLead, LandedLead, LeadAs, LeadingStand};
 
@@ -37,4 +38,9 @@ pub fn sequences_lead()
 /// A unit of such a sequence can stand where its targets and words are there.
 pub fn leading_units_stand()
     ensures { LeadingStand }
+{}
+
+/// A placing is the only one for its widths, whatever these are.
+pub fn placings_are_one()
+    ensures { PlacingsAreOne }
 {}

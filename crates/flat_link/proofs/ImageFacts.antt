@@ -82,6 +82,7 @@ module _ (l : Layout) (is : IsLayout l) (right : IsFirstMisplaced l.objects.now 
     code_base = made.code.base;
     code = record {
       size = made.code.bytes.size;
+      small = made.code.small;
       others = λ x free. made.code.bytes.others x (λ k c s. free k (link_is l.objects.now l.at k c));
       linked = λ k link code. made.code.bytes.linked k (link_there l.objects.now l.at k link) code;
     };

@@ -1,6 +1,7 @@
 -- What the linker makes of objects, part by part.
-use Rattle.std.specs.Prelude.{◌≡◌, ◌↔◌, ℕ, ◌+◌, map, Contains}
+use Rattle.std.specs.Prelude.{◌≡◌, ◌<◌, ◌↔◌, ℕ, ◌+◌, ◌^◌, map, Contains}
 use Rattle.std.specs.List.Sorted.{IsStrictlyIncreasing}
+use Rattle.elf_model.specs.Fields.{byte_at}
 use Rattle.elf_model.specs.Objects.{is_code, is_data}
 use Rattle.mark_word.specs.Words.{bare}
 use Rattle.thumb_table.specs.Parts.{CodeBytes, Memory, Image}
@@ -16,6 +17,7 @@ use Rattle.flat_link.specs.Sites.{all_links}
 
 pub record IsMadeCode (l : Layout) (code : CodeBytes) : Type 0 where
   pub base : code.base ≡ l.at.base
+  pub small : (x : ℕ) → byte_at code.bytes x < 2 ^ 8
   pub bytes : AreLaid (λ k. is_code k.part.section) (λ all k. IsWritten (parts_in l) all l.at.base k) l.at.base (all_links l.objects.now l.at) 0 (code_bytes_of l.objects.now l.at) code.bytes
   pub marks : code.marks ≡ marks_among (parts_in l) (all_links l.objects.now l.at)
   pub stops : (a : ℕ) → Contains code.stops a ↔ IsStop l.objects.now (parts_in l) a

@@ -1,8 +1,9 @@
 //! The image of objects at a placement.
 
-ghost use Rattle.std.specs.Prelude.{◌≡◌, ◌≤◌, ◌+◌, ℕ, None, map, length, All, IfOk, IfErr, IsTrue};
+ghost use Rattle.std.specs.Prelude.{◌≡◌, ◌<◌, ◌≤◌, ◌+◌, ◌^◌, ℕ, None, map, length, All, IfOk, IfErr, IsTrue};
 ghost use Rattle.std.specs.List.{list_all};
 ghost use Rattle.elf_model.specs.declared.objects.Reloc.{Reloc};
+ghost use Rattle.elf_model.specs.Fields.{byte_at};
 ghost use Rattle.elf_model.specs.Objects.{is_object, is_within};
 ghost use Rattle.thumb_table.specs.Layouts.{IsPlacement, as_part};
 ghost use Rattle.thumb_table.specs.Names.{Defined, all_symbols};
@@ -53,6 +54,11 @@ fn parts_of(alloc: Global, layout: &Layout) -> Result<Vec<Part>, AllocError>
     Ok(parts)
 }
 
+/// Each of them is below 256.
+fn are_small(bytes: &[u8])
+    ensures { (x : ℕ) → byte_at bytes.now x < 2 ^ 8 }
+{}
+
 fn code_of(
     alloc: Global,
     layout: &Layout,
@@ -68,6 +74,7 @@ fn code_of(
     let base = layout.at.base;
     let mut bytes = bytes_of(alloc, &layout.code, base as u64)?;
     patch_all_code(&mut bytes, layout, ties);
+    are_small(&bytes);
     let marks = marks_of(alloc, layout, ties)?;
     let stops = stops_of(alloc, layout, all)?;
     Ok(CodeBytes::new(base, bytes, marks, stops))

@@ -188,11 +188,11 @@ are_relocs = record {
 
 carried_8 : IsCarried plain hard the_reloc 0 unit (carrier 8)
 unfolding half_rows full_rows on_condition_branch
-carried_8 = record { behind_start = omega arith; before_end = omega arith; there = refl; fits = refl; number = refl }
+carried_8 = record { behind_start = omega arith; before_end = omega arith; there = refl; long = refl; sense = refl; fits = refl; number = refl }
 
 carried_12 : IsCarried plain hard the_reloc 0 unit (carrier 12)
 unfolding half_rows full_rows on_condition_branch
-carried_12 = record { behind_start = omega arith; before_end = omega arith; there = refl; fits = refl; number = refl }
+carried_12 = record { behind_start = omega arith; before_end = omega arith; there = refl; long = refl; sense = refl; fits = refl; number = refl }
 
 are_carried : AreCarried plain hard flow places carriers
 are_carried = record {

@@ -4,7 +4,9 @@ use Rattle.std.specs.List.{zip}
 use Rattle.elf_model.specs.declared.objects.Reloc.{Reloc}
 use Rattle.elf_model.specs.declared.objects.RelocKind.{RelocKind}
 use Rattle.elf_model.specs.declared.objects.RelocKind.TheVariants.{ThmCall, ThmJump24, ThmJump19}
+use Rattle.elf_model.specs.Fields.{half_at}
 use Rattle.elf_model.specs.Objects.{ObjectParts}
+use Rattle.elf_model.specs.Ranges.{is_long}
 use Rattle.thumb_instr.specs.declared.instructions.Instr.{Instr}
 use Rattle.thumb_instr.specs.declared.instructions.Instr.TheVariants as instr
 use Rattle.reloc_places.specs.Starts.{bytes_of, decoded_at}
@@ -32,11 +34,14 @@ kind_on (instr.Call i) k = ThmCall
 kind_on (instr.Branch i) k = if may_fail i.cond then ThmJump19 else ThmJump24
 kind_on i k = k
 
--- It stands there, in its unit, is of its relocation's kind, and has the number that is left: no branch has an addend.
+-- It stands there, in its unit, in four bytes, is of its relocation's kind, a branch or call just where that was of one, and
+-- has the number that is left: no branch has an addend.
 pub record IsCarried (o h : ObjectParts) (r : Reloc) (j : ℕ) (u : UnitPlace) (c : Carrier) : Type 0 where
   pub behind_start : u.start ≤ c.at
   pub before_end : c.at + 4 ≤ u.end
   pub there : decoded_at (bytes_of h j) c.at 0 ≡ Ok c.instr
+  pub long : is_long (half_at (bytes_of h j) c.at) ≡ true
+  pub sense : is_jump (kind_on c.instr r.kind) ≡ is_jump r.kind
   pub fits : fits_kind (kind_on c.instr r.kind) true c.instr ≡ true
   pub number : number_in (Ok c.instr) ≡ (if is_jump r.kind then zero_addend r else new_addend o r)
 

@@ -21,7 +21,7 @@ use Rattle.flow_recover.specs.declared.flows.PoolWord.{PoolWord}
 use Rattle.flow_recover.specs.Flows.{FlowParts}
 use Rattle.hardened_form.specs.Places.{Places as UnitPlaces}
 use Rattle.hardened_form.specs.Sections.{is_cleared}
-use Rattle.hardened_form.specs.Turns.{zero_addend, is_turned, Target, old_target, IsTarget, of_data as stays_data, new_addend}
+use Rattle.hardened_form.specs.Turns.{zero_addend, is_turned, Target, old_target, IsTarget, Stays, of_data as stays_data, new_addend}
 use Rattle.hardened_form.specs.Carriers.{Carrier}
 use Rattle.hardened_form.specs.Relocs.{new_number, first_target, IsNewSymbol, StandsFor, IsWordOf, in_pool, in_island, IsNewReloc, of_data, of_step, of_word}
 use Rattle.hardened_form.specs.Relocs.IsNewSymbol.{same, own}
@@ -158,8 +158,9 @@ module _ (o h : ObjectParts) (f : FlowParts) (p : UnitPlaces) (carriers : List (
       ∙ (ap (λ (j : ℕ). word_at (bytes_of h j) q.offset) stands.section ∙ (ap (word_at (bytes_of h r.section)) stands.offset
       ∙ (data_number k r s stands.there at other ∙ sym (ap (λ (b : Bool). cond b (zero_addend r) (new_addend o r)) none)))))
 
-  new_symbol : (k : ℕ) (r : Reloc) (s : Section) → slice_get o.relocs k ≡ Some r → slice_get o.sections r.section ≡ Some s → is_code s ≡ false → (m : ℕ) × IsNewSymbol o is.form.lists r m
-  new_symbol k r s there at other =
+  -- the symbol that one which stays names now
+  pub new_symbol : (k : ℕ) (r : Reloc) → slice_get o.relocs k ≡ Some r → Stays o f k r → (m : ℕ) × IsNewSymbol o is.form.lists r m
+  new_symbol k r there stays =
       let name = symbol_of o k r is.plain there in
       elim (cases_Bool (is_turned o r)) [
         | inl y ↦
@@ -167,7 +168,7 @@ module _ (o h : ObjectParts) (f : FlowParts) (p : UnitPlaces) (carriers : List (
             let home = code_home o name.0.home parts.0 in
             let t : Target = record { section = home.0; old = old_target o r name.0 } in
             let target : IsTarget o r t = record { symbol = name.0; names = name.1; home = home.1; old = refl } in
-            let n = place_of is.form.lists.targets t ((is.form.tables.lists.targets.exact t).1 (record { number = k; reloc = r; there = there; stays = stays_data s at other; turned = y; target = target })) in
+            let n = place_of is.form.lists.targets t ((is.form.tables.lists.targets.exact t).1 (record { number = k; reloc = r; there = there; stays = stays; turned = y; target = target })) in
             (first_target o is.form.lists + n.0, own n.0 t y target n.1 refl)
         | inr n ↦ (new_number o is.form.lists r.symbol name.0, same name.0 n name.1 refl)
       ]
@@ -194,7 +195,7 @@ module _ (o h : ObjectParts) (f : FlowParts) (p : UnitPlaces) (carriers : List (
 pub data_answered : DataIsAnswered
 data_answered o h f p carriers is = record {
   linked = λ k r s there at other.
-      let m = new_symbol o h f p carriers is k r s there at other in
+      let m = new_symbol o h f p carriers is k r there (stays_data s at other) in
       let q : Reloc = record { section = r.section; offset = r.offset; kind = r.kind; symbol = m.0 } in
       let stands : StandsFor o is.form.lists k r r.kind r.offset q = record { there = there; section = refl; offset = refl; kind = refl; symbol = m.1 } in
       let n = place_of h.relocs q ((is.form.tables.relocs.exact q).1 (of_data k r s at other stands)) in

@@ -200,7 +200,7 @@ Evenly it = (it.new % 2 ≡ 0 → it.end % 2 ≡ 0)
 even_word : (x : ℕ) → round_up x 4 % 2 ≡ 0
 even_word x = omega arith
 
-evens : (items : List Item) (x size : ℕ) → StandFrom x items size → x % 2 ≡ 0 → ((it : Item) → Contains items it → it.new % 2 ≡ 0 → it.end % 2 ≡ 0) → (it : Item) → Contains items it → it.new % 2 ≡ 0
+pub evens : (items : List Item) (x size : ℕ) → StandFrom x items size → x % 2 ≡ 0 → ((it : Item) → Contains items it → it.new % 2 ≡ 0 → it.end % 2 ≡ 0) → (it : Item) → Contains items it → it.new % 2 ≡ 0
 evens [] x size stand even each it c = absurd (contains_none it c)
 evens (z ∷ rest) x size stand even each it c =
     let here = begins z.word stand.0 in

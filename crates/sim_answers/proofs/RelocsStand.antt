@@ -31,10 +31,10 @@ use Rattle.hardened_form.specs.Standing.{units}
 use Rattle.hardened_form.specs.Code.{word_number, reloc_of}
 use Rattle.hardened_form.specs.Turns.{zero_addend, new_addend}
 use Rattle.hardened_form.specs.Carriers.{Carrier, IsCarrier, IsCarried, kind_on}
-use Rattle.hardened_form.specs.Relocs.{StandsFor, IsNewReloc, of_data, of_step, of_word}
+use Rattle.hardened_form.specs.Relocs.{StandsFor, IsWordOf, IsNewReloc, of_data, of_step, of_word}
 use Rattle.sim_images.specs.Counterparts.{SameSense, Answers}
 use Rattle.sim_images.proofs.HomesAlike.{code_kept}
-use Rattle.sim_answers.specs.Units.{IsStep, code_end}
+use Rattle.sim_answers.specs.Units.{code_end}
 use Rattle.sim_answers.specs.Forms.{IsFormOf, new_places}
 use Rattle.sim_answers.proofs.Accepted.{not_wrong}
 use Rattle.sim_answers.proofs.Pairs.{zip_left}
@@ -112,7 +112,7 @@ module _ (o h : ObjectParts) (f : FlowParts) (p : UnitPlaces) (carriers : List (
     pub unit : UnitPlace
     pub placed : Contains (units f p) (x, unit)
     pub carried : IsCarried o h r x.section unit c
-    pub step : IsStep h r x.section unit c
+    pub step : IsStart (bytes_of h x.section) unit.start (code_end unit) c.at
     pub section : r.section ≡ x.section
 
   pub of_step_is : (k : ℕ) (r : Reloc) (x : Point) (c : Carrier) (q : Reloc) → IsCarrier f carriers x c → x.reloc ≡ Some k → StandsFor o is.form.lists k r (kind_on c.instr r.kind) c.at q → OfStep k r x c q
@@ -155,33 +155,35 @@ module _ (o h : ObjectParts) (f : FlowParts) (p : UnitPlaces) (carriers : List (
       instr_addend (bytes_of h q.section) q no_word
       ∙ (ap number_in (ap (λ (j : ℕ). decoded_at (bytes_of h j) q.offset 0) section ∙ (ap (λ (a : ℕ). decoded_at (bytes_of h x.section) a 0) stands.offset ∙ s.carried.there)) ∙ s.carried.number)
 
-  pub each_answers : (q : Reloc) → IsNewReloc o f p carriers is.form.lists q → (k : ℕ) × (r : Reloc) × (slice_get o.relocs k ≡ Some r) × SameSense r q × Answers o h (new_places is) r q
-  each_answers q (of_data k r s at other stands) = (k, r, stands.there, record { jump = ap is_jump stands.kind; kind = λ n. stands.kind }, data_word o h f p carriers is k r s q at other stands)
-  each_answers q (of_step k r x c carrier point stands) =
+  -- what stands for a point's relocation answers it
+  pub step_answers : (k : ℕ) (r : Reloc) (x : Point) (c : Carrier) (q : Reloc) → IsCarrier f carriers x c → x.reloc ≡ Some k → StandsFor o is.form.lists k r (kind_on c.instr r.kind) c.at q → SameSense r q × Answers o h (new_places is) r q
+  step_answers k r x c q carrier point stands =
       let s = of_step_is k r x c q carrier point stands in
-      let sense : is_jump q.kind ≡ is_jump r.kind = ap is_jump stands.kind ∙ s.step.sense in
+      let sense : is_jump q.kind ≡ is_jump r.kind = ap is_jump stands.kind ∙ s.carried.sense in
       let number = step_number k r x c q carrier point stands in (
-        k,
-        r,
-        stands.there,
-        record { jump = sense; kind = λ n. stands.kind ∙ same_kind r.kind c.instr (s.step.sense ∙ n) },
+        record { jump = sense; kind = λ n. stands.kind ∙ same_kind r.kind c.instr (s.carried.sense ∙ n) },
         answered o h f p carriers is k r (kind_on c.instr r.kind) c.at q stands (inr (record { point = x; listed = s.listed; reloc = point })) sense number,
       )
-  each_answers q (of_word k r w y word point stands) =
+
+  -- so does what stands for a word's
+  pub word_answers : (k : ℕ) (r : Reloc) (w : PoolWord) (y : ℕ) (q : Reloc) → IsWordOf f p w y → w.reloc ≡ Some k → StandsFor o is.form.lists k r r.kind y q → SameSense r q × Answers o h (new_places is) r q
+  word_answers k r w y q word point stands =
       let listed = word_listed o h f p carriers is w y word in
       let kind = of_word_kind k r w listed point stands.there in
       let place = reloc_at_is o w.section w.offset k r (sym ((is.flow.words w).0 listed).reloc ∙ point) stands.there in
       let none = word_no_jump r.kind kind in
       let number : word_at (bytes_of h w.section) y ≡ new_addend o r = is.form.words w y word ∙ ap (word_number o w) (ap (reloc_of o) point ∙ stands.there) in (
-        k,
-        r,
-        stands.there,
         record { jump = ap is_jump stands.kind; kind = λ n. stands.kind },
         answered o h f p carriers is k r r.kind y q stands (inl none) (ap is_jump stands.kind)
             (word_addend (bytes_of h q.section) q (ap is_word stands.kind ∙ kind)
             ∙ (ap (λ (j : ℕ). word_at (bytes_of h j) q.offset) (stands.section ∙ place.0) ∙ (ap (word_at (bytes_of h w.section)) stands.offset
             ∙ (number ∙ sym (ap (λ (b : Bool). cond b (zero_addend r) (new_addend o r)) none))))),
       )
+
+  pub each_answers : (q : Reloc) → IsNewReloc o f p carriers is.form.lists q → (k : ℕ) × (r : Reloc) × (slice_get o.relocs k ≡ Some r) × SameSense r q × Answers o h (new_places is) r q
+  each_answers q (of_data k r s at other stands) = (k, r, stands.there, record { jump = ap is_jump stands.kind; kind = λ n. stands.kind }, data_word o h f p carriers is k r s q at other stands)
+  each_answers q (of_step k r x c carrier point stands) = let a = step_answers k r x c q carrier point stands in (k, r, stands.there, a.0, a.1)
+  each_answers q (of_word k r w y word point stands) = let a = word_answers k r w y q word point stands in (k, r, stands.there, a.0, a.1)
 
   -- a code section of the object is one of its form
   pub code_section : (j : ℕ) → holds_code (slice_get o.sections j) ≡ true → (t : Section) × (slice_get h.sections j ≡ Some t) × (is_code t ≡ true)
@@ -201,5 +203,5 @@ module _ (o h : ObjectParts) (f : FlowParts) (p : UnitPlaces) (carriers : List (
       let t = code_section x.section (code_of_point o h f p carriers is x s.listed) in
       let even = unit_even o h f p carriers is x s.unit t.0 s.placed t.1 t.2 in (
         subst (λ (k : RelocKind). 2 ^ 20 ≤ reach k) (sym stands.kind) (long_reach r.kind c.instr (sym (ap is_jump stands.kind) ∙ jump) s.carried.fits),
-        ap (λ (n : ℕ). n % 2) stands.offset ∙ start_even (bytes_of h x.section) s.unit.start (code_end s.unit) c.at even s.step.start,
+        ap (λ (n : ℕ). n % 2) stands.offset ∙ start_even (bytes_of h x.section) s.unit.start (code_end s.unit) c.at even s.step,
       )

@@ -78,14 +78,14 @@ module _ (o h : ObjectParts) (f : FlowParts) (p : UnitPlaces) (carriers : List (
       let s = of_step_is o h f p carriers is k r x c q carrier point stands in
       let code = code_of_point o h f p carriers is x s.listed in
       let t = code_section o h f p carriers is x.section code in
-      let e = unit_start o h f p carriers is x.section code t.0 t.1 t.2 x s.unit c.at s.placed refl s.step.start in
+      let e = unit_start o h f p carriers is x.section code t.0 t.1 t.2 x s.unit c.at s.placed refl s.step in
       let section : q.section ≡ x.section = stands.section ∙ s.section in
       let start : IsCodeStart h q.section (bytes_of h q.section) q.offset e.0 =
       subst (λ (j : ℕ). IsCodeStart h j (bytes_of h j) q.offset e.0) (sym section) (subst (λ (a : ℕ). IsCodeStart h x.section (bytes_of h x.section) a e.0) (sym stands.offset) e.1) in
       let means : instr_at (bytes_of h x.section) e.0 c.at 0 ≡ Ok c.instr =
       ap (λ (b : Bool). cond b (decoded_at (bytes_of h x.section) c.at 0) (Err Unknown)) (le-leb (c.at + length_at (bytes_of h x.section) c.at) e.0 e.2) ∙ s.carried.there in
       let fits : fits_kind q.kind (is_long (half_at (bytes_of h x.section) c.at)) c.instr ≡ true =
-      ap (λ (b : Bool). fits_kind q.kind b c.instr) s.step.long ∙ (ap (λ (k : _). fits_kind k true c.instr) stands.kind ∙ s.carried.fits) in
+      ap (λ (b : Bool). fits_kind q.kind b c.instr) s.carried.long ∙ (ap (λ (k : _). fits_kind k true c.instr) stands.kind ∙ s.carried.fits) in
       on_instr e.0 c.instr start (ap (λ (j : ℕ). instr_at (bytes_of h j) e.0 q.offset 0) section ∙ (ap (λ (a : ℕ). instr_at (bytes_of h x.section) e.0 a 0) stands.offset ∙ means))
       (ap (λ (j : ℕ). fits_kind q.kind (is_long (half_at (bytes_of h j) q.offset)) c.instr) section ∙ (ap (λ (a : ℕ). fits_kind q.kind (is_long (half_at (bytes_of h x.section) a)) c.instr) stands.offset ∙ fits))
   place q (of_word k r w y word point stands) =
@@ -107,7 +107,7 @@ module _ (o h : ObjectParts) (f : FlowParts) (p : UnitPlaces) (carriers : List (
       absurd (both_ways (is_jump q.kind) (ap is_jump stands.kind ∙ word_no_jump r.kind (of_word_kind o h f p carriers is k r w (word_listed o h f p carriers is w y word) point stands.there)) jump)
   straight q (of_step k r x c carrier point stands) jump =
       let s = of_step_is o h f p carriers is k r x c q carrier point stands in
-      let jumps : is_jump r.kind ≡ true = sym s.step.sense ∙ (sym (ap is_jump stands.kind) ∙ jump) in
+      let jumps : is_jump r.kind ≡ true = sym s.carried.sense ∙ (sym (ap is_jump stands.kind) ∙ jump) in
       step_number o h f p carriers is k r x c q carrier point stands ∙ (ap (λ (b : Bool). cond b (zero_addend r) (new_addend o r)) jumps ∙ ap (λ (b : Bool). cond b (2 ^ 32 - 4) 0) jumps)
 
   -- what stands in data stands for what is in data

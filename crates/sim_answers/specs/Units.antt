@@ -1,19 +1,18 @@
 -- What is asked of a hardened form beyond its tables: its units are instructions one behind the other.
-use Rattle.std.specs.Prelude.{Option, [], ◌∷◌, Ok, ◌≡◌, ◌<◌, ℕ, ◌+◌, ◌%◌, true, List, Some, slice_get, unwrap_or, Contains}
+use Rattle.std.specs.Prelude.{Option, [], ◌∷◌, Ok, ◌≡◌, ◌<◌, ℕ, ◌+◌, ◌%◌, List, Some, slice_get, unwrap_or, Contains}
 use Rattle.std.specs.List.{zip}
 use Rattle.elf_model.specs.declared.objects.Section.{Section}
 use Rattle.elf_model.specs.declared.objects.Reloc.{Reloc}
-use Rattle.elf_model.specs.Fields.{half_at}
 use Rattle.elf_model.specs.Objects.{ObjectParts}
-use Rattle.elf_model.specs.Ranges.{is_long, length_at, IsStart}
+use Rattle.elf_model.specs.Ranges.{length_at, IsStart}
 use Rattle.thumb_instr.specs.declared.instructions.Instr.{Instr}
 use Rattle.reloc_places.specs.Starts.{bytes_of, decoded_at, behind}
-use Rattle.reloc_places.specs.Relocations.{is_jump, reloc_at}
+use Rattle.reloc_places.specs.Relocations.{reloc_at}
 use Rattle.flow_recover.specs.declared.flows.Point.{Point}
 use Rattle.flow_recover.specs.Flows.{FlowParts}
 use Rattle.hardened_form.specs.Places.{UnitPlace, Places}
 use Rattle.hardened_form.specs.Standing.{units}
-use Rattle.hardened_form.specs.Carriers.{Carrier, kind_on}
+use Rattle.hardened_form.specs.Carriers.{Carrier}
 
 -- Lengths of instructions divide what lies between an offset and another.
 pub data Divides (bytes : List ℕ) (z : ℕ) : ℕ → Type 0 where
@@ -35,13 +34,8 @@ pub record IsUnit (h : ObjectParts) (j : ℕ) (u : UnitPlace) : Type 0 where
   pub divided : Divides (bytes_of h j) (code_end u) u.start
   pub island : (y : ℕ) → u.island ≡ Some y → (u.start < y) × (y % 4 ≡ 0) × (u.end ≡ y + 4)
 
--- What carries the relocation of a point is one of the instructions of its unit, in four bytes, and no branch stands for an address.
-pub record IsStep (h : ObjectParts) (r : Reloc) (j : ℕ) (u : UnitPlace) (c : Carrier) : Type 0 where
-  pub start : IsStart (bytes_of h j) u.start (code_end u) c.at
-  pub long : is_long (half_at (bytes_of h j) c.at) ≡ true
-  pub sense : is_jump (kind_on c.instr r.kind) ≡ is_jump r.kind
-
+-- And what carries the relocation of a point is one of the instructions of its unit.
 pub record AreUnits (o h : ObjectParts) (f : FlowParts) (p : Places) (carriers : List (List Carrier)) : Type 0 where
   pub each : (x : Point) (u : UnitPlace) → Contains (units f p) (x, u) → IsUnit h x.section u
   pub steps : (x : Point) (u : UnitPlace) (all : List Carrier) (c : Carrier) (k : ℕ) (r : Reloc) → Contains (zip (units f p) carriers) ((x, u), all) → Contains all c
-      → x.reloc ≡ Some k → slice_get o.relocs k ≡ Some r → IsStep h r x.section u c
+      → x.reloc ≡ Some k → slice_get o.relocs k ≡ Some r → IsStart (bytes_of h x.section) u.start (code_end u) c.at

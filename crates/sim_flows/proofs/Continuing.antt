@@ -210,7 +210,7 @@ module _ (chart : Chart) (code : CodeBytes) (o : ObjectParts) (f : FlowParts) (b
           let c = placed.addresses j x at in
           let w = placed.widths j x p at there in
           let same : address j + p.width ≡ start x.section + end_of x = omega (arith, c, w) in
-          absurd (placed.stops x.section (end_of x) stop (subst (IsClear code) same clear))
+          absurd (placed.stops j x at (call_is address x.exit (sym is.way ∙ e)) q stop (subst (IsClear code) same clear))
       | Some n ↦ λ q. goes_next n q
     ] refl
 

@@ -1,12 +1,12 @@
 -- How control goes on in the flow of an object, at the addresses of its points.
-use Rattle.std.specs.Prelude.{◌≡◌, ℕ, ◌+◌, Some, if◌then◌else◌, map, slice_get}
+use Rattle.std.specs.Prelude.{◌≡◌, ℕ, ◌+◌, Some, None, if◌then◌else◌, map, slice_get}
 use Rattle.elf_model.specs.Objects.{ObjectParts}
 use Rattle.thumb_table.specs.Parts.{CodeBytes}
 use Rattle.thumb_table.specs.Ordinary.{IsClear}
 use Rattle.flow_recover.specs.declared.flows.Exit.TheVariants.{Call}
 use Rattle.flow_recover.specs.declared.flows.Point.{Point as FlowPoint}
 use Rattle.flow_recover.specs.Flows.{FlowParts}
-use Rattle.flow_recover.specs.Points.{StopsBehindNops}
+use Rattle.flow_recover.specs.Points.{end_of, StopsBehindNops}
 use Rattle.flow_recover.specs.WholeFlows.{IsFlow}
 use Rattle.liveness.specs.declared.boundary.Boundary.{Boundary}
 use Rattle.sim_charts.specs.Charts.{Chart, Point}
@@ -18,14 +18,15 @@ abbrev pub HasState : (o : ObjectParts) (f : FlowParts) → IsFlow o f → ℕ �
 HasState o f flow j p = slice_get (map (λ n. n.it) flow.nodes) j ≡ Some p.it
 
 -- Where the points of a flow stand, and their units: sections start somewhere, a unit ends where that of the next point
--- begins, and a hardened call returns there. Where only NOPs stand up to where code stops, so it is in the image.
+-- begins, and a hardened call returns there. Where a call has no next point, and only NOPs stand behind it up to where code
+-- stops, so it is in the image.
 pub record ArePlaced (o : ObjectParts) (f : FlowParts) (flow : IsFlow o f) (chart : Chart) (plain : CodeBytes) (start address : ℕ → ℕ) : Type 0 where
   pub addresses : (j : ℕ) (x : FlowPoint) → slice_get f.points j ≡ Some x → address j ≡ start x.section + x.offset
   pub states : (j : ℕ) (x : FlowPoint) (p : Point) → slice_get f.points j ≡ Some x → chart (address j) ≡ Some p → HasState o f flow j p
   pub widths : (j : ℕ) (x : FlowPoint) (p : Point) → slice_get f.points j ≡ Some x → chart (address j) ≡ Some p → p.width ≡ (if x.wide then 4 else 2)
   pub ends : (j q : ℕ) (x : FlowPoint) (p r : Point) → slice_get f.points j ≡ Some x → chart (address j) ≡ Some p → x.next ≡ Some q → chart (address q) ≡ Some r → r.place ≡ p.end
   pub backs : (j q : ℕ) (x : FlowPoint) (p : Point) → slice_get f.points j ≡ Some x → chart (address j) ≡ Some p → x.exit ≡ Call → x.next ≡ Some q → p.back ≡ p.end
-  pub stops : (s y : ℕ) → StopsBehindNops o s y → IsClear plain (start s + y) → ⊥
+  pub stops : (j : ℕ) (x : FlowPoint) → slice_get f.points j ≡ Some x → x.exit ≡ Call → x.next ≡ None → StopsBehindNops o x.section (end_of x) → IsClear plain (start x.section + end_of x) → ⊥
 
 -- Then control goes on as a chart asks, where the point's instruction stands in the image.
 abbrev pub FlowsContinue : Type 0

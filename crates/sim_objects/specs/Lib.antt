@@ -7,3 +7,12 @@ pub mod Living
 pub mod Following
 pub mod Working
 pub mod Linking
+pub mod UnitLinks
+pub mod Moving
+pub mod Meeting
+pub mod Even
+pub mod Answering
+pub mod StandingUnits
+pub mod Skipping
+pub mod Together
+pub mod Beginning

@@ -1,11 +1,19 @@
 //! Laws of the charts of paired objects. The functions do nothing: their contracts are the laws.
 
+ghost use Rattle.sim_objects.specs.Answering.{PairsAnswer};
 ghost use Rattle.sim_objects.specs.Apart.{PointsEndApart, PointsLieLow};
+ghost use Rattle.sim_objects.specs.Beginning.{CallsBegin, MemoriesMeet, NamesEnter};
+ghost use Rattle.sim_objects.specs.Even.{PlacesAreEven};
 ghost use Rattle.sim_objects.specs.Exits.{NothingAtExit};
 ghost use Rattle.sim_objects.specs.Following.{UnitsFollow};
 ghost use Rattle.sim_objects.specs.Linking.{ListsAreLinked};
 ghost use Rattle.sim_objects.specs.Living.{PointsLive, PointsSpare};
+ghost use Rattle.sim_objects.specs.Meeting.{UnitsMeet};
+ghost use Rattle.sim_objects.specs.Moving.{EntriesAreCharted, LinksEnter, MovesAreCharted};
+ghost use Rattle.sim_objects.specs.Skipping.{AllMaySkip, UnitsKeepOut};
 ghost use Rattle.sim_objects.specs.Standing.{ChartsHavePoints, PointsStand};
+ghost use Rattle.sim_objects.specs.StandingUnits.{UnitsStand};
+ghost use Rattle.sim_objects.specs.Together.{UnitsAreLinked};
 ghost use Rattle.sim_objects.specs.Working.{UnitsWork};
 
 /// No two points of a chart end at one address, so what stands for a return address is determined.
@@ -53,8 +61,73 @@ pub fn units_work()
     ensures { UnitsWork }
 {}
 
+/// Points and units stand at even addresses.
+pub fn places_are_even()
+    ensures { PlacesAreEven }
+{}
+
 /// Where places are even, control goes on as in the chart, and units stand in the hardened image with what makes an
 /// ordinary step alike, the two images are linked unit by unit.
 pub fn lists_are_linked()
     ensures { ListsAreLinked }
+{}
+
+/// Where a point of either list went, the chart has it with its unit.
+pub fn moves_are_charted()
+    ensures { MovesAreCharted }
+{}
+
+/// Where the flow of an object has an entry, so has the chart.
+pub fn entries_are_charted()
+    ensures { EntriesAreCharted }
+{}
+
+/// An address of code that linking makes in the plain image is an entry's, and what is taken for it that of the entry's unit.
+pub fn links_enter()
+    ensures { LinksEnter }
+{}
+
+/// What linking puts at a unit makes an ordinary step at its point alike.
+pub fn units_meet()
+    ensures { UnitsMeet }
+{}
+
+/// The two lists answer each other, as the laws on two images ask.
+pub fn pairs_answer()
+    ensures { PairsAnswer }
+{}
+
+/// Each unit stands in the hardened image, with what linking puts there.
+pub fn units_stand()
+    ensures { UnitsStand }
+{}
+
+/// Units in which no step may be skipped keep out of the addresses at which steps may be.
+pub fn units_keep_out()
+    ensures { UnitsKeepOut }
+{}
+
+/// Where all units may be skipped, steps may be skipped everywhere.
+pub fn all_may_skip()
+    ensures { AllMaySkip }
+{}
+
+/// Where the chart goes as control does and linking meets it, the units of a chart are linked.
+pub fn units_are_linked()
+    ensures { UnitsAreLinked }
+{}
+
+/// A name that can be called is that of an entry of the chart.
+pub fn names_enter()
+    ensures { NamesEnter }
+{}
+
+/// Runs on both images begin with memories that are the same.
+pub fn memories_meet()
+    ensures { MemoriesMeet }
+{}
+
+/// Calls of names start alike in both images.
+pub fn calls_begin()
+    ensures { CallsBegin }
 {}

@@ -85,6 +85,7 @@ adds_done = record {
   inside = omega arith;
   within = omega arith;
   island = λ y e. absurd (none-some y e);
+  load = λ y e. absurd (none-some y e);
   short = omega arith;
   does = adds_does;
   spare = spare;

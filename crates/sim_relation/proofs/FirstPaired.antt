@@ -13,7 +13,7 @@ use Rattle.hardened_form.proofs.ShortLists.{each_at}
 use Rattle.sim_relation.specs.Accepted.{boundaries}
 use Rattle.sim_relation.specs.Sequences.{IsSequence}
 use Rattle.sim_relation.specs.Doing.{IsDone}
-use Rattle.sim_relation.specs.Pairs.{HaveGrown, AreCarried, AreDone, everywhere}
+use Rattle.sim_relation.specs.Pairs.{HaveGrown, AreCarried, AreKept, AreDone, everywhere}
 use Rattle.sim_relation.specs.FirstRow.{done_twice, certificate, FirstRowIsPaired}
 use Rattle.sim_relation.proofs.FirstAccepted.{accepted, is_call_exit}
 use Rattle.sim_relation.proofs.FirstUnits.{movs_does, bx_does}
@@ -38,6 +38,7 @@ first_done = record {
   inside = omega arith;
   within = omega arith;
   island = λ y e. absurd (none-some y e);
+  load = λ y e. absurd (none-some y e);
   short = omega arith;
   does = movs_does;
   spare = λ k c. absurd (contains_none k c);
@@ -52,6 +53,7 @@ last_done = record {
   inside = omega arith;
   within = omega arith;
   island = λ y e. absurd (none-some y e);
+  load = λ y e. absurd (none-some y e);
   short = omega arith;
   does = bx_does;
   spare = λ k c. absurd (contains_none k c);
@@ -71,6 +73,12 @@ have_grown (suc j) s t e c f = absurd (none-some s e)
 none_carried : AreCarried certificate
 none_carried k all s e f c there =
     each_at (λ k all. Contains all c → (t : _) × Contains s.steps t × (t.at ≡ c.at)) carriers ((λ n. absurd (contains_none c n)), ((λ n. absurd (contains_none c n)), tt)) k all e there
+
+-- no point has one
+none_kept : AreKept flow certificate
+none_kept zero k x all e f r = absurd (none-some k (ap (λ (z : _). z.reloc) (same_Some first x e) ∙ r))
+none_kept (suc zero) k x all e f r = absurd (none-some k (ap (λ (z : _). z.reloc) (same_Some last x e) ∙ r))
+none_kept (suc (suc n)) k x all e f r = absurd (none-some x e)
 
 all_done : AreDone plain hard flow certificate 2 2 4 everywhere
 all_done zero x u s e f g =
@@ -95,5 +103,6 @@ first_row = record {
   grown = have_grown;
   count = refl;
   carried = none_carried;
+  kept = none_kept;
   done = all_done;
 }

@@ -86,12 +86,14 @@ pub record IsBack (x : Point) (u : UnitPlace) : Type 0 where
   pub low : u.start ≤ u.back
   pub high : u.back ≤ u.end
 
--- The point and its unit, which begins and ends inside of the section. Only a load of a word has a word behind it.
+-- The point and its unit, which begins and ends inside of the section. Only a load of a word has a word of its own, and that
+-- stands behind an instruction, since control comes to where the unit begins.
 pub record IsDone (o h : ObjectParts) (f : FlowParts) (p : Places) (b : Boundary) (F c : ℕ) (skipped : Bool) (x : Point) (u : UnitPlace) (s : Sequence) : Type 0 where
   pub stands : IsSequence h x.section u s
   pub inside : u.start < size_of (slice_get h.sections x.section)
   pub within : u.end ≤ size_of (slice_get h.sections x.section)
   pub island : (y : ℕ) → u.island ≡ Some y → (n : ℕ) × (x.word ≡ Some n)
+  pub load : (y : ℕ) → u.island ≡ Some y → u.start < s.behind
   pub short : length s.steps ≤ F
   pub does : DoesIt o h f p c skipped x u s
   pub spare : (k : ℕ) → Contains s.scratch k → IsSpare f b x k

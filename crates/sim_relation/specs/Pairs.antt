@@ -1,5 +1,5 @@
 -- PAIRED OBJECTS: an object and its hardened form, said of bytes.
-use Rattle.std.specs.Prelude.{◌≡◌, ◌≤◌, ℕ, ◌*◌, Bool, true, List, Some, length, slice_get}
+use Rattle.std.specs.Prelude.{◌≡◌, ◌≤◌, ℕ, ◌*◌, Bool, true, List, Some, length, slice_get, Contains}
 use Rattle.elf_model.specs.declared.objects.Section.{Section}
 use Rattle.elf_model.specs.Objects.{ObjectParts, is_code}
 use Rattle.flow_recover.specs.declared.flows.Point.{Point}
@@ -24,6 +24,11 @@ HaveGrown o h c = (j : ℕ) (s t : Section) → slice_get o.sections j ≡ Some 
 abbrev pub AreCarried : Certificate → Type 0
 AreCarried e = (k : ℕ) (all : List Carrier) (s : Sequence) → slice_get e.carriers k ≡ Some all → slice_get e.sequences k ≡ Some s → AreAmong all s.steps
 
+-- A point's relocation stays: one instruction of its unit carries it at least, also where nothing reads what that makes. So
+-- what the plain image links there is linked in the hardened one too.
+abbrev pub AreKept : FlowParts → Certificate → Type 0
+AreKept f e = (n k : ℕ) (x : Point) (all : List Carrier) → slice_get f.points n ≡ Some x → slice_get e.carriers n ≡ Some all → x.reloc ≡ Some k → (c : Carrier) × Contains all c
+
 abbrev pub AreDone : ObjectParts → ObjectParts → FlowParts → Certificate → ℕ → ℕ → ℕ → (Point → Bool) → Type 0
 AreDone o h f e F c K may_skip =
     (k : ℕ) (x : Point) (u : UnitPlace) (s : Sequence) → slice_get f.points k ≡ Some x → slice_get e.places.units k ≡ Some u → slice_get e.sequences k ≡ Some s
@@ -42,6 +47,7 @@ pub record Paired (o h : ObjectParts) (F c K : ℕ) (may_skip : Point → Bool) 
   pub grown : HaveGrown o h c
   pub count : length certificate.sequences ≡ length flow.points
   pub carried : AreCarried certificate
+  pub kept : AreKept flow certificate
   pub done : AreDone o h flow certificate F c K may_skip
 
 -- in all units

@@ -1,4 +1,5 @@
-use Rattle.std.proofs.Common.{◌≡◌, ℕ, List, length, map, ap, ◌∙◌, sym, subst, refl}
+use Rattle.std.proofs.Common.{◌<◌, ◌^◌, ◌≡◌, ℕ, List, length, map, ap, ◌∙◌, sym, subst, refl}
+use Rattle.elf_model.specs.Fields.{byte_at}
 use Rattle.elf_model.specs.Objects.{is_code}
 use Rattle.thumb_table.specs.Layouts.{bytes_from, code_bytes_of}
 use Rattle.thumb_table.specs.Links.{Link, IsWritten}
@@ -23,6 +24,7 @@ returns c =
     let same = same_items new c.in_ok-bytes.bytes.items c.in_ok-bytes.bytes.len (c.patch_all_code.ensures.size ∙ ap length c.deref_mut.ensures.value) (sym (c.patch_all_code.ensures.size ∙ c.deref_mut.ensures.len)) in
     subst (IsMadeCode l) (sym c.new.ensures) (record {
       base = refl;
+      small = λ x. subst (λ (bs : List ℕ). byte_at bs x < 2 ^ 8) c.deref-2.ensures.value (c.are_small.ensures x);
       bytes = subst (laid (all_links l.objects.now l.at) (code_bytes_of l.objects.now l.at)) (sym same) whole;
       marks = c.in_ok-marks.ensures ∙ ap (marks_among (parts_in l)) c.requires.ties.all;
       stops = c.in_ok-stops.ensures.same;
