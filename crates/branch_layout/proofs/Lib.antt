@@ -16,3 +16,4 @@ pub mod CodesFacts
 pub mod LeadingFacts
 pub mod BuiltFacts
 pub mod OnePlacing
+pub mod LeadsFacts

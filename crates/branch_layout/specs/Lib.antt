@@ -10,4 +10,5 @@ pub mod Standing
 pub mod Coding
 pub mod Reached
 pub mod Once
+pub mod Leads
 pub mod Leading

@@ -1,6 +1,7 @@
 //! Laws of layouts. The functions do nothing: their contracts are the laws.
 
 ghost use Rattle.branch_layout.specs.Codes.{NumbersHaveCodes};
+ghost use Rattle.branch_layout.specs.Leads.{CopiesReach, NumbersLead};
 ghost use Rattle.branch_layout.specs.Once.{PlacingsAreOne};
 ghost use Rattle.branch_layout.specs.Reached.{GoalsAreReached};
 ghost use Rattle.branch_layout.specs.Leading.{BuiltLead, GuardedLead, LandedLead, LeadAs, LeadingStand};
@@ -43,4 +44,11 @@ pub fn leading_units_stand()
 /// A placing is the only one for its widths, whatever these are.
 pub fn placings_are_one()
     ensures { PlacingsAreOne }
+{}
+
+/// In a section of code that starts at a multiple of 4 the machine makes of such a number the goal's address. So what
+/// stands for a step reaches its goal as the laws of sequences ask.
+pub fn numbers_lead()
+    ensures numbers { NumbersLead }
+    ensures copies { CopiesReach }
 {}
