@@ -1,16 +1,11 @@
 -- Numbers lead to goals.
-use Rattle.std.proofs.Common.{ℤ, pos, negsuc, ◌-ℤ◌, ◌-◌, ◌%◌, ◌≡◌, ◌≤◌, ◌<◌, ℕ, ◌+◌, ◌*◌, ◌/◌, ◌^◌, Bool, true, false, refl, sym, ap, ◌∙◌, subst, arith}
+use Rattle.std.proofs.Common.{ℤ, ◌-◌, ◌%◌, ◌≡◌, ◌≤◌, ◌<◌, ℕ, ◌+◌, ◌*◌, ◌/◌, ◌^◌, Bool, true, false, refl, sym, ap, ◌∙◌, arith}
 use Rattle.std.specs.Prelude.{nat_le, if◌then◌else◌}
 use Rattle.std.proofs.lemmas.Bool.{leb-true, leb-false}
-use Rattle.thumb_instr.specs.declared.instructions.Instr.{Instr}
 use Rattle.thumb_instr.specs.declared.instructions.Instr.TheVariants as instr
 use Rattle.thumb_instr.specs.Fields.{LiteralFields}
-use Rattle.thumb_table.specs.States.{Site}
 use Rattle.thumb_table.specs.Values.{away, moved}
-use Rattle.thumb_table.specs.Effects.{literal_base}
-use Rattle.seq_core.specs.declared.steps.Goal.{Goal}
-use Rattle.seq_core.specs.Denoted.{Spots, spot_of, Reached}
-use Rattle.branch_layout.specs.Goals.{base_of, offset_to, aimed, Reaches}
+use Rattle.branch_layout.specs.Goals.{base_of, offset_to, aimed}
 use Rattle.branch_layout.specs.Leads.{Leads, IsRoom, NumbersLead, CopiesReach}
 use Rattle.branch_layout.proofs.CodeFacts.{IsDifference, difference}
 use Rattle.branch_layout.proofs.CodeFacts.IsDifference.{upwards, downwards}
