@@ -30,5 +30,9 @@ pub mod Loading
 pub mod LinkedUnits
 pub mod Skipping
 pub mod Together
+pub mod Ordinals
+pub mod Mapping
+pub mod HavingMaps
 pub mod DataCells
 pub mod Beginning
+pub mod Growth

@@ -15,4 +15,6 @@ pub mod Answering
 pub mod StandingUnits
 pub mod Skipping
 pub mod Together
+pub mod Mapping
 pub mod Beginning
+pub mod Growth

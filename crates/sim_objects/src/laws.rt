@@ -6,8 +6,10 @@ ghost use Rattle.sim_objects.specs.Beginning.{CallsBegin, MemoriesMeet, NamesEnt
 ghost use Rattle.sim_objects.specs.Even.{PlacesAreEven};
 ghost use Rattle.sim_objects.specs.Exits.{NothingAtExit};
 ghost use Rattle.sim_objects.specs.Following.{UnitsFollow};
+ghost use Rattle.sim_objects.specs.Growth.{PairsAreShort};
 ghost use Rattle.sim_objects.specs.Linking.{ListsAreLinked};
 ghost use Rattle.sim_objects.specs.Living.{PointsLive, PointsSpare};
+ghost use Rattle.sim_objects.specs.Mapping.{ChartsFollowMaps, PairsHaveMaps};
 ghost use Rattle.sim_objects.specs.Meeting.{UnitsMeet};
 ghost use Rattle.sim_objects.specs.Moving.{EntriesAreCharted, LinksEnter, MovesAreCharted};
 ghost use Rattle.sim_objects.specs.Skipping.{AllMaySkip, UnitsKeepOut};
@@ -130,4 +132,19 @@ pub fn memories_meet()
 /// Calls of names start alike in both images.
 pub fn calls_begin()
     ensures { CallsBegin }
+{}
+
+/// What a chart takes for addresses of code, the maps of the hardened objects take.
+pub fn charts_follow_maps()
+    ensures { ChartsFollowMaps }
+{}
+
+/// A hardened object has its map.
+pub fn pairs_have_maps()
+    ensures { PairsHaveMaps }
+{}
+
+/// No code section of a hardened object is longer than 32 times its plain one, for two copies.
+pub fn pairs_are_short()
+    ensures { PairsAreShort }
 {}

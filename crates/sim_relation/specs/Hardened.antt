@@ -11,7 +11,7 @@ use Rattle.thumb_table.specs.Images.{IsImage, entry_of}
 use Rattle.thumb_table.specs.Calls.{start}
 use Rattle.thumb_table.specs.Parts.{Image}
 use Rattle.thumb_table.specs.declared.placements.Placement.{Placement}
-use Rattle.guard_cli.specs.AddressMaps.{TakesEntry, SameState}
+use Rattle.sim_relation.specs.AddressMaps.{TakesEntry, SameState}
 
 -- each output has its map
 pub record AreMaps (outs : List ObjectParts) (maps : List (List MapRow)) : Type 0 where
