@@ -17,3 +17,4 @@ pub mod LeadingFacts
 pub mod BuiltFacts
 pub mod OnePlacing
 pub mod LeadsFacts
+pub mod LaidFacts

@@ -11,4 +11,5 @@ pub mod Coding
 pub mod Reached
 pub mod Once
 pub mod Leads
+pub mod Laid
 pub mod Leading

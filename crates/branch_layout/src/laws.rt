@@ -1,6 +1,7 @@
 //! Laws of layouts. The functions do nothing: their contracts are the laws.
 
 ghost use Rattle.branch_layout.specs.Codes.{NumbersHaveCodes};
+ghost use Rattle.branch_layout.specs.Laid.{LayoutsAreLaid};
 ghost use Rattle.branch_layout.specs.Leads.{CopiesReach, NumbersLead};
 ghost use Rattle.branch_layout.specs.Once.{PlacingsAreOne};
 ghost use Rattle.branch_layout.specs.Reached.{GoalsAreReached};
@@ -51,4 +52,9 @@ pub fn placings_are_one()
 pub fn numbers_lead()
     ensures numbers { NumbersLead }
     ensures copies { CopiesReach }
+{}
+
+/// A layout has the places of its placing, with its units in their order.
+pub fn layouts_are_laid()
+    ensures { LayoutsAreLaid }
 {}
