@@ -1,10 +1,9 @@
 -- A layout has the places of its placing.
-use Rattle.std.proofs.Common.{◌≡◌, ◌≤◌, ◌<◌, ℕ, ◌+◌, List, length, map, take, min, Bool, true, false, refl, sym, ap, ◌∙◌, subst, arith, Option, Some, None}
+use Rattle.std.proofs.Common.{◌≡◌, ◌≤◌, ◌<◌, ℕ, ◌+◌, List, length, map, take, min, Bool, true, false, refl, sym, ap, ◌∙◌, arith, Option, Some, None}
 use Rattle.std.specs.Prelude.{slice_get, nat_lt, if◌then◌else◌, unwrap_or}
-use Rattle.std.specs.Option.{option_map}
 use Rattle.std.specs.List.{AllZip, zip}
 use Rattle.std.proofs.lemmas.Bool.{ltb-false}
-use Rattle.std.proofs.lemmas.Option.{same_Some, slice_get-map, slice_get_within}
+use Rattle.std.proofs.lemmas.Option.{slice_get_within}
 use Rattle.std.proofs.lemmas.List.{length-map, take_all}
 use Rattle.std.proofs.lemmas.Slice.Zip.{AllZip-long, length-zip}
 use Rattle.elf_model.proofs.Elements.{element_at}
@@ -15,9 +14,9 @@ use Rattle.seq_core.specs.declared.units.Unit.{Unit as SeqUnit}
 use Rattle.seq_core.specs.Places.{PlacedParts, LayoutParts}
 use Rattle.flow_recover.specs.declared.flows.PoolWord.{PoolWord}
 use Rattle.hardened_form.specs.Places.{UnitPlace, Places}
-use Rattle.branch_layout.specs.Copies.{copies_of, length_of, bytes_before}
+use Rattle.branch_layout.specs.Copies.{copies_of, length_of}
 use Rattle.branch_layout.specs.Placings.{Stretch, Placing, place_of as stretch_place, places_of, landing_of, IsStretch, word_point}
-use Rattle.branch_layout.specs.Layouts.{landing_place, IsPlacedUnit, IsLayout}
+use Rattle.branch_layout.specs.Layouts.{IsPlacedUnit, IsLayout}
 use Rattle.branch_layout.specs.Laid.{laid_place, laid_places, IsLaid, LayoutsAreLaid}
 use Rattle.branch_layout.proofs.WithinFacts.{all_zip_at, map_at, zip_at}
 

@@ -18,3 +18,4 @@ pub mod BuiltFacts
 pub mod OnePlacing
 pub mod LeadsFacts
 pub mod LaidFacts
+pub mod ApartFacts

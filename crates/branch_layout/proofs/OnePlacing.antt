@@ -123,7 +123,7 @@ module _ (units : List SeqUnit) (words : List PoolWord) (p : Placing) (placing :
         of_word at.0 w.0 z.1 w.1 parts.1 (ap (λ (x : ℕ × ℕ). item_of_word (x, z.1)) w.2 ∙ from.2)
   ]
 
-  unit_among : (k : ℕ) (u : SeqUnit) (s : Stretch) → slice_get units k ≡ Some u → slice_get p.units k ≡ Some s → Contains placing.items (item_of_unit (unit_point u, s.place))
+  pub unit_among : (k : ℕ) (u : SeqUnit) (s : Stretch) → slice_get units k ≡ Some u → slice_get p.units k ≡ Some s → Contains placing.items (item_of_unit (unit_point u, s.place))
   unit_among k u s e f =
       let it : Item = item_of_unit (unit_point u, s.place) in
       let points = slice_get-map unit_point units k ∙ ap (option_map unit_point) e in
@@ -131,7 +131,7 @@ module _ (units : List SeqUnit) (words : List PoolWord) (p : Placing) (placing :
       let zipped = contains_at (zip (map unit_point units) (map stretch_place p.units)) k (unit_point u, s.place) (zip_at (map unit_point units) (map stretch_place p.units) k (unit_point u) s.place points places) in
       (placing.of.same it).1 (Contains-append_left (map item_of_unit (zip (map unit_point units) (map stretch_place p.units))) (map item_of_word (zip (map word_point words) p.words)) it (map_contains item_of_unit (zip (map unit_point units) (map stretch_place p.units)) (unit_point u, s.place) zipped))
 
-  word_among : (k : ℕ) (w : PoolWord) (at : ℕ) → slice_get words k ≡ Some w → slice_get p.words k ≡ Some at → Contains placing.items (item_of_word (word_point w, at))
+  pub word_among : (k : ℕ) (w : PoolWord) (at : ℕ) → slice_get words k ≡ Some w → slice_get p.words k ≡ Some at → Contains placing.items (item_of_word (word_point w, at))
   word_among k w at e f =
       let it : Item = item_of_word (word_point w, at) in
       let points = slice_get-map word_point words k ∙ ap (option_map word_point) e in

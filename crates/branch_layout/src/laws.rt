@@ -1,7 +1,7 @@
 //! Laws of layouts. The functions do nothing: their contracts are the laws.
 
 ghost use Rattle.branch_layout.specs.Codes.{NumbersHaveCodes};
-ghost use Rattle.branch_layout.specs.Laid.{LayoutsAreLaid};
+ghost use Rattle.branch_layout.specs.Laid.{LayoutsAreLaid, NoUnitAtWord};
 ghost use Rattle.branch_layout.specs.Leads.{CopiesReach, NumbersLead};
 ghost use Rattle.branch_layout.specs.Once.{PlacingsAreOne};
 ghost use Rattle.branch_layout.specs.Reached.{GoalsAreReached};
@@ -57,4 +57,9 @@ pub fn numbers_lead()
 /// A layout has the places of its placing, with its units in their order.
 pub fn layouts_are_laid()
     ensures { LayoutsAreLaid }
+{}
+
+/// No unit with bytes begins at a word.
+pub fn no_unit_is_at_a_word()
+    ensures { NoUnitAtWord }
 {}

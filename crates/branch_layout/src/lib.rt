@@ -11,8 +11,8 @@ mod standing;
 mod stretches;
 
 pub use laws::{
-    goals_are_reached, layouts_are_laid, leading_units_stand, numbers_have_codes, numbers_lead,
-    placings_are_one, sequences_lead,
+    goals_are_reached, layouts_are_laid, leading_units_stand, no_unit_is_at_a_word,
+    numbers_have_codes, numbers_lead, placings_are_one, sequences_lead,
 };
 pub use laying::{lay, places};
 pub use standing::Placing;
