@@ -35,3 +35,5 @@ pub mod Beginning
 pub mod Ordinals
 pub mod Mapping
 pub mod HavingMaps
+pub mod ImageStops
+pub mod Going

@@ -17,3 +17,4 @@ pub mod Skipping
 pub mod Together
 pub mod Beginning
 pub mod Mapping
+pub mod Going

@@ -6,6 +6,7 @@ ghost use Rattle.sim_objects.specs.Beginning.{CallsBegin, MemoriesMeet, NamesEnt
 ghost use Rattle.sim_objects.specs.Even.{PlacesAreEven};
 ghost use Rattle.sim_objects.specs.Exits.{NothingAtExit};
 ghost use Rattle.sim_objects.specs.Following.{UnitsFollow};
+ghost use Rattle.sim_objects.specs.Going.{PairsAreLinked, PointsGoOn};
 ghost use Rattle.sim_objects.specs.Linking.{ListsAreLinked};
 ghost use Rattle.sim_objects.specs.Living.{PointsLive, PointsSpare};
 ghost use Rattle.sim_objects.specs.Mapping.{ChartsFollowMaps, PairsHaveMaps};
@@ -141,4 +142,14 @@ pub fn charts_follow_maps()
 /// A hardened object has its map.
 pub fn pairs_have_maps()
     ensures { PairsHaveMaps }
+{}
+
+/// Control goes on in a chart as it does in the plain image.
+pub fn points_go_on()
+    ensures { PointsGoOn }
+{}
+
+/// The images of two lists of pairs are linked unit by unit.
+pub fn pairs_are_linked()
+    ensures { PairsAreLinked }
 {}
