@@ -32,8 +32,6 @@ pub mod Skipping
 pub mod Together
 pub mod DataCells
 pub mod Beginning
-pub mod Ordinals
-pub mod Mapping
 pub mod HavingMaps
 pub mod ImageStops
 pub mod Going

@@ -16,5 +16,5 @@ pub mod StandingUnits
 pub mod Skipping
 pub mod Together
 pub mod Beginning
-pub mod Mapping
+pub mod HavingMaps
 pub mod Going

@@ -9,7 +9,7 @@ ghost use Rattle.sim_objects.specs.Following.{UnitsFollow};
 ghost use Rattle.sim_objects.specs.Going.{PairsAreLinked, PointsGoOn};
 ghost use Rattle.sim_objects.specs.Linking.{ListsAreLinked};
 ghost use Rattle.sim_objects.specs.Living.{PointsLive, PointsSpare};
-ghost use Rattle.sim_objects.specs.Mapping.{ChartsFollowMaps, PairsHaveMaps};
+ghost use Rattle.sim_objects.specs.HavingMaps.{PairsHaveMaps};
 ghost use Rattle.sim_objects.specs.Meeting.{UnitsMeet};
 ghost use Rattle.sim_objects.specs.Moving.{EntriesAreCharted, LinksEnter, MovesAreCharted};
 ghost use Rattle.sim_objects.specs.Skipping.{AllMaySkip, UnitsKeepOut};
@@ -132,11 +132,6 @@ pub fn memories_meet()
 /// Calls of names start alike in both images.
 pub fn calls_begin()
     ensures { CallsBegin }
-{}
-
-/// What a chart takes for addresses of code, the maps of the hardened objects take.
-pub fn charts_follow_maps()
-    ensures { ChartsFollowMaps }
 {}
 
 /// A hardened object has its map.
