@@ -24,7 +24,7 @@ widths x = go x.wide
     go true = inr refl
     go false = inl refl
 
-some_width : (x : FlowPoint) → 0 < width_of x
+pub some_width : (x : FlowPoint) → 0 < width_of x
 some_width x = go x.wide
   where
     go : (b : Bool) → 0 < cond b 4 2

@@ -35,3 +35,8 @@ pub mod Beginning
 pub mod HavingMaps
 pub mod ImageStops
 pub mod Going
+pub mod Told
+pub mod Existing
+pub mod Ordinals
+pub mod Mapping
+pub mod Hardening

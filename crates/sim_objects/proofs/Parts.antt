@@ -47,7 +47,7 @@ sort_code : (s : Section) → is_code s ≡ true → (is_code s || is_data s) �
 sort_code s e = ap (λ (b : Bool). b || is_data s) e
 
 -- code stays code
-same_sort : (o : ObjectParts) (j : ℕ) (s t : Section) → IsNewSection o j s t → is_code t ≡ is_code s
+pub same_sort : (o : ObjectParts) (j : ℕ) (s t : Section) → IsNewSection o j s t → is_code t ≡ is_code s
 same_sort o j s t h = ap (λ (n : ℕ). (n == progbits) && is_alloc t.flags && is_exec t.flags) h.kind ∙ ap (λ (n : ℕ). (s.kind == progbits) && is_alloc n && is_exec n) h.flags
 
 pub plain_part : (objects : List ObjectParts) (at : Placement) (i : ℕ) (o : ObjectParts) (f : FlowParts) (flow : IsFlow o f) → slice_get objects i ≡ Some o

@@ -18,3 +18,6 @@ pub mod Together
 pub mod Beginning
 pub mod HavingMaps
 pub mod Going
+pub mod Existing
+pub mod Mapping
+pub mod Hardening

@@ -13,3 +13,4 @@ pub mod AddressMaps
 pub mod Taken
 pub mod Refused
 pub mod Copies
+pub mod Hardened
