@@ -13,4 +13,8 @@ mod image_rows;
 #[cfg(test)]
 mod list_rows;
 #[cfg(test)]
+mod relocated_files;
+#[cfg(test)]
+mod relocated_rows;
+#[cfg(test)]
 mod word_rows;

@@ -15,3 +15,4 @@ pub mod NumberFacts
 pub mod SymbolNames
 pub mod SoundSymbols
 pub mod WholeSymbols
+pub mod FewSymbols

@@ -169,7 +169,7 @@ module _ (f : FlowParts) (l : LayoutParts) (m : Matches f l) where
   abbrev pub all_words : List (ℕ × ℕ)
   all_words = map pool_place (zip f.words l.words) ++ islands l.units
 
-  in_to : (j y : ℕ) → Contains (words_in f (places_of l) j) y → Contains all_words (j, y)
+  pub in_to : (j y : ℕ) → Contains (words_in f (places_of l) j) y → Contains all_words (j, y)
   in_to j y h = elim (Contains-append_cases (flat_map (pool_word_in j) (pool f (places_of l))) (flat_map (island_in j) (units f (places_of l))) y h) [
     | inl a ↦ Contains-append_left (map pool_place (zip f.words l.words)) (islands l.units) (j, y) (pool_to j y (zip f.words l.words) a)
     | inr b ↦ Contains-append_right (map pool_place (zip f.words l.words)) (islands l.units) (j, y) (islands_to j y f.points l.units m.sections b)

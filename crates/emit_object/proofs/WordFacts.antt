@@ -20,7 +20,7 @@ all_same list p = (
 
 -- pool words and their places, by numbers
 module _ {X Y : Type 0} where
-  zip_length : (xs : List X) (ys : List Y) → length ys ≡ length xs → length (zip xs ys) ≡ length xs
+  pub zip_length : (xs : List X) (ys : List Y) → length ys ≡ length xs → length (zip xs ys) ≡ length xs
   zip_length [] ys l = refl
   zip_length (x ∷ xs) [] l = absurd (omega arith)
   zip_length (x ∷ xs) (y ∷ ys) l = ap suc (zip_length xs ys (omega arith))

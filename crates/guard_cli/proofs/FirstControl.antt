@@ -18,8 +18,8 @@ use Rattle.thumb_table.specs.Images.{IsImage}
 use Rattle.thumb_table.specs.Calls.{start}
 use Rattle.thumb_table.specs.Parts.{Image}
 use Rattle.thumb_table.specs.declared.placements.Placement.{Placement}
-use Rattle.guard_cli.specs.AddressMaps.{SameWord}
-use Rattle.guard_cli.specs.Hardened.{AreArguments, EndsAlike, Hardened}
+use Rattle.sim_relation.specs.AddressMaps.{SameWord}
+use Rattle.sim_relation.specs.Hardened.{AreArguments, EndsAlike, Hardened}
 use Rattle.guard_cli.proofs.Sequences.{returns_of, ends_once}
 use Rattle.guard_cli.proofs.FirstRuns.{after_moves}
 use Rattle.guard_cli.proofs.FirstImages.{lone_object, AreIdle, none_idle, map_idle}

@@ -11,8 +11,8 @@ use Rattle.thumb_table.specs.Images.{IsImage, entry_of}
 use Rattle.thumb_table.specs.Calls.{start}
 use Rattle.thumb_table.specs.Parts.{Image}
 use Rattle.thumb_table.specs.declared.placements.Placement.{Placement}
-use Rattle.guard_cli.specs.AddressMaps.{TakesEntry, SameState}
-use Rattle.guard_cli.specs.Hardened.{EndsAlike, Hardened}
+use Rattle.sim_relation.specs.AddressMaps.{TakesEntry, SameState}
+use Rattle.sim_relation.specs.Hardened.{EndsAlike, Hardened}
 use Rattle.guard_cli.proofs.Groups.{legal_of}
 use Rattle.guard_cli.proofs.Standing.{length-code_bytes}
 use Rattle.guard_cli.proofs.FirstRuns.{IsReady, after_moves, after_moves_plain, plain_end, hard_run}

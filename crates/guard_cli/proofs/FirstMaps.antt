@@ -12,8 +12,8 @@ use Rattle.guard_cli.specs.Output.{doubled, rows_from, rows_of, hardened_object}
 use Rattle.thumb_table.specs.Images.{even}
 use Rattle.thumb_table.specs.Parts.{Image}
 use Rattle.thumb_table.specs.declared.placements.Placement.{Placement}
-use Rattle.guard_cli.specs.AddressMaps.{TakesEntry}
-use Rattle.guard_cli.specs.Hardened.{AreMaps, AreShort, code_sections}
+use Rattle.sim_relation.specs.AddressMaps.{TakesEntry}
+use Rattle.sim_relation.specs.Hardened.{AreMaps, AreShort, code_sections}
 use Rattle.guard_cli.proofs.Standing.{length-code_bytes}
 use Rattle.guard_cli.proofs.FirstImages.{IsFormed, text_part, even_of_entry, length_doubled_bytes}
 use Rattle.guard_cli.proofs.FirstLinks.{is_not_empty}

@@ -12,7 +12,7 @@ use Rattle.thumb_table.specs.Parts.{Memory}
 use Rattle.thumb_table.specs.States.{State, read}
 use Rattle.thumb_table.specs.Calls.{argument, start_regs, run_cells, start}
 use Rattle.thumb_table.specs.Parts.{Image}
-use Rattle.guard_cli.specs.AddressMaps.{SameWord, SameBits, SameCell, SameByte, SameState}
+use Rattle.sim_relation.specs.AddressMaps.{SameWord, SameBits, SameCell, SameByte, SameState}
 
 pub same_start : (one two : Image) → one.memory ≡ two.memory → (stack entry : ℕ) (args : List ℕ) → start one stack entry args ≡ start two stack entry args
 same_start one two e stack entry args = ap (λ (m : Memory). start (record one { memory = m }) stack entry args) e

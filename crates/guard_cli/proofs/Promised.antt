@@ -7,7 +7,7 @@ use Rattle.elf_model.specs.Files.{StandsFor}
 use Rattle.guard_cli.specs.FirstForm.{IsFirstCode, first_object}
 use Rattle.guard_words.specs.Words.{Pair}
 use Rattle.guard_cli.specs.Output.{hardened_object}
-use Rattle.guard_cli.specs.Hardened.{Hardened}
+use Rattle.sim_relation.specs.Hardened.{Hardened}
 use Rattle.guard_cli.specs.Promise.{ArePlaced, IsPick, AreHardened}
 use Rattle.guard_cli.proofs.FirstOutput.{stands_hardened}
 use Rattle.guard_cli.proofs.FirstHardened.{first_hardened, none_hardened}

@@ -12,7 +12,5 @@ pub mod MachineRuns
 pub mod Steps
 pub mod Meant
 pub mod Statuses
-pub mod AddressMaps
-pub mod Hardened
 pub mod Promise
 pub mod ListWork

@@ -4,7 +4,7 @@ use Rattle.std.specs.List.{AllPairs}
 use Rattle.elf_model.specs.Objects.{ObjectParts}
 use Rattle.elf_model.specs.Files.{StandsFor}
 use Rattle.guard_words.specs.Words.{Pair}
-use Rattle.guard_cli.specs.Hardened.{Hardened}
+use Rattle.sim_relation.specs.Hardened.{Hardened}
 
 -- the objects that the files of these names stand for, in order
 abbrev pub AreObjects : (List ℕ → Option (List ℕ)) → List (List ℕ) → List ObjectParts → Type 0

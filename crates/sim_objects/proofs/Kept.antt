@@ -95,12 +95,12 @@ pair_at F c K [] i o e = absurd (none-some o e)
 pair_at F c K (q ∷ rest) zero o e = (q, refl, same_Some q.plain o e)
 pair_at F c K (q ∷ rest) (suc i) o e = pair_at F c K rest i o e
 
-hard_at : (F c K : ℕ) (pairs : List (Pairing F c K)) (i : ℕ) (q : Pairing F c K) → slice_get pairs i ≡ Some q → slice_get (hards pairs) i ≡ Some q.hard
+pub hard_at : (F c K : ℕ) (pairs : List (Pairing F c K)) (i : ℕ) (q : Pairing F c K) → slice_get pairs i ≡ Some q → slice_get (hards pairs) i ≡ Some q.hard
 hard_at F c K [] i q e = absurd (none-some q e)
 hard_at F c K (z ∷ rest) zero q e = ap (λ (w : Pairing F c K). Some w.hard) (same_Some z q e)
 hard_at F c K (z ∷ rest) (suc i) q e = hard_at F c K rest i q e
 
-same_length : (F c K : ℕ) (pairs : List (Pairing F c K)) → length (hards pairs) ≡ length (plains pairs)
+pub same_length : (F c K : ℕ) (pairs : List (Pairing F c K)) → length (hards pairs) ≡ length (plains pairs)
 same_length F c K [] = refl
 same_length F c K (q ∷ rest) = ap (λ (n : ℕ). suc n) (same_length F c K rest)
 

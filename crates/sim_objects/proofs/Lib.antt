@@ -40,3 +40,4 @@ pub mod Existing
 pub mod Ordinals
 pub mod Mapping
 pub mod Hardening
+pub mod Growth

@@ -21,3 +21,4 @@ pub mod Going
 pub mod Existing
 pub mod Mapping
 pub mod Hardening
+pub mod Growth

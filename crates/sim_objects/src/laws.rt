@@ -8,6 +8,7 @@ ghost use Rattle.sim_objects.specs.Existing.{ListsHaveCharts};
 ghost use Rattle.sim_objects.specs.Exits.{NothingAtExit};
 ghost use Rattle.sim_objects.specs.Following.{UnitsFollow};
 ghost use Rattle.sim_objects.specs.Going.{PairsAreLinked, PointsGoOn};
+ghost use Rattle.sim_objects.specs.Growth.{PairsAreShort};
 ghost use Rattle.sim_objects.specs.Hardening.{ListsEndAlike};
 ghost use Rattle.sim_objects.specs.HavingMaps.{PairsHaveMaps};
 ghost use Rattle.sim_objects.specs.Linking.{ListsAreLinked};
@@ -165,4 +166,9 @@ pub fn charts_follow_maps()
 /// Calls of two lists of pairs end alike under their maps.
 pub fn lists_end_alike()
     ensures { ListsEndAlike }
+{}
+
+/// No code section of a hardened object is longer than 32 times its plain one, for two copies.
+pub fn pairs_are_short()
+    ensures { PairsAreShort }
 {}

@@ -10,7 +10,7 @@ pub mod FirstRow
 pub mod AddsRow
 pub mod EmptyLoop
 pub mod AddressMaps
+pub mod Hardened
 pub mod Taken
 pub mod Refused
 pub mod Copies
-pub mod Hardened

@@ -10,6 +10,7 @@ use Rattle.flow_recover.proofs.FlowPoints.{points_rise}
 use Rattle.emit_object.specs.RowLists.{ordinals_from}
 use Rattle.emit_object.proofs.RowTurns.{ordinals_length}
 use Rattle.emit_object.proofs.NumberFacts.{target_within, are_new_symbols}
+use Rattle.emit_object.proofs.FewSymbols.{symbols_few}
 use Rattle.emit_object.proofs.WholeSymbols.{sound_list}
 use Rattle.emit_object.proofs.new_symbols.new_symbols.Goals as goal
 
@@ -60,3 +61,8 @@ pub returns-clause-sound : goal.returns-clause-sound
 returns-clause-sound c = λ h items rows sized are sections inside.
     sound_list c.args.o.now h rows c.args.f.now c.args.l.now items c.push_shared.new.list.items c.in_ok-targets.targets.items c.in_ok-first_target.first_target c.in_ok-numbers.numbers.items
     (returns-clause-symbols c h items sized are) sections inside c.requires.within c.sound.ensures c.requires.flow (points_rise c.args.o.now c.args.f.now c.requires.flow c.requires.within) c.requires.matches are
+
+pub returns-clause-few : goal.returns-clause-few
+returns-clause-few c = λ h items sized are.
+    symbols_few c.args.o.now h c.args.f.now c.args.l.now items c.push_shared.new.list.items c.in_ok-targets.targets.items c.in_ok-first_target.first_target c.in_ok-numbers.numbers.items
+    (returns-clause-symbols c h items sized are) c.requires.matches sized
