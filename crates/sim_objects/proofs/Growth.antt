@@ -1,14 +1,14 @@
 -- The code sections of a hardened object are those of its plain one, in order, and have not grown too much.
-use Rattle.std.specs.Prelude.{◌≡◌, ◌≤◌, ◌<◌, ℕ, zero, suc, ◌+◌, ◌*◌, Bool, true, false, cond, List, [], ◌∷◌, length, filter, Some, slice_get, refl}
-use Rattle.std.proofs.Common.{arith, inl, inr, ap, sym, ◌∙◌, subst}
+use Rattle.std.specs.Prelude.{◌≡◌, ◌≤◌, ℕ, zero, suc, ◌*◌, Bool, true, cond, List, [], ◌∷◌, length, filter, Some, slice_get, refl}
+use Rattle.std.proofs.Common.{arith, inl, inr, ap, sym, ◌∙◌}
 use Rattle.std.proofs.lemmas.Bool.{cases_Bool, cases_lt, both_ways}
 use Rattle.std.proofs.lemmas.Option.{none-some, same_Some, slice_get_within}
 use Rattle.elf_model.specs.declared.objects.Section.{Section}
 use Rattle.elf_model.specs.Objects.{ObjectParts, is_code}
 use Rattle.elf_model.specs.Maps.{map_section}
 use Rattle.elf_model.proofs.Elements.{element_at}
-use Rattle.sim_relation.specs.Hardened.{AreShort, code_sections}
-use Rattle.sim_objects.specs.Lists.{Pairing, plains, hards}
+use Rattle.sim_relation.specs.Hardened.{code_sections}
+use Rattle.sim_objects.specs.Lists.{Pairing}
 use Rattle.sim_objects.specs.Growth.{PairsAreShort}
 use Rattle.sim_objects.proofs.Kept.{pair_at, hard_at}
 use Rattle.sim_objects.proofs.Parts.{same_sort}
