@@ -1,5 +1,5 @@
 -- The sequences that builders give lead to their goals.
-use Rattle.std.proofs.Common.{◌≡◌, ◌≤◌, ◌<◌, ℕ, zero, suc, ◌+◌, List, [], ◌∷◌, length, Bool, true, false, refl, sym, ap, ◌∙◌, subst, arith, inl, inr, Option, Some, None}
+use Rattle.std.proofs.Common.{◌≡◌, ◌<◌, ℕ, zero, suc, List, [], ◌∷◌, Bool, true, false, refl, subst, arith, inl, inr, Option, Some, None}
 use Rattle.std.specs.Prelude.{slice_get, Contains, if◌then◌else◌, not, pos, ⊤, ◌&&◌}
 use Rattle.std.proofs.lemmas.Option.{none-some, same_Some}
 use Rattle.elf_model.proofs.Elements.{contains_here, contains_later, contains_none, contains_cases}
@@ -32,7 +32,7 @@ use Rattle.seq_core.specs.Sent.{destination, sent}
 use Rattle.seq_core.specs.Stacks.{transfer_at}
 use Rattle.seq_core.specs.Straight.{own_goal, flagged, around, around_pair, written_back}
 use Rattle.seq_core.specs.Built.{placed, through_one, through_two, as_steps}
-use Rattle.seq_core.specs.Builders.{HasRow, CanBuild, AreCoded}
+use Rattle.seq_core.specs.Builders.{HasRow, AreCoded}
 use Rattle.seq_core.specs.Replaced.{copy_loading, base_copied, long_summed, moved_list, popped, with_link, jumping, stack_stepped, leading, links, branches, called, register_called, zero_branched, replaced}
 use Rattle.branch_layout.specs.Given.{goals_of}
 use Rattle.branch_layout.specs.Leading.{CanLead, AllLead, goes_to_target, LeadsAs, AllLeadAs, built, landed, BuiltLead, LeadAs}

@@ -53,11 +53,11 @@ adr_is_full i (code.Full a b) is = absurd (cc is.0)
 -- OFFSETS
 
 -- a difference is a number upwards or downwards
-data IsDifference (a b : ℕ) (z : ℤ) : Type 0 where
+pub data IsDifference (a b : ℕ) (z : ℤ) : Type 0 where
   upwards : (n : ℕ) → z ≡ pos n → a + n ≡ b → IsDifference a b z
   downwards : (n : ℕ) → z ≡ negsuc n → b + n + 1 ≡ a → IsDifference a b z
 
-difference : (a b : ℕ) → IsDifference a b (pos b -ℤ pos a)
+pub difference : (a b : ℕ) → IsDifference a b (pos b -ℤ pos a)
 difference a b = go (nat_le a b) refl
   where
     go : (t : Bool) → nat_le a b ≡ t → IsDifference a b (pos b -ℤ pos a)

@@ -1,5 +1,5 @@
 -- Each copy that reaches its goal has a code.
-use Rattle.std.proofs.Common.{◌≡◌, ◌≢◌, ◌≤◌, ◌<◌, ℕ, ◌+◌, ◌^◌, ◌⊎◌, inl, inr, List, [], ◌∷◌, length, refl, sym, ap, ◌∙◌, subst, arith, Option, Some, None}
+use Rattle.std.proofs.Common.{◌≡◌, ◌≢◌, ◌≤◌, ◌<◌, ℕ, ◌^◌, ◌⊎◌, inl, inr, List, [], ◌∷◌, length, refl, sym, ap, ◌∙◌, subst, arith, Option, Some, None}
 use Rattle.std.specs.Prelude.{slice_get, Contains}
 use Rattle.std.specs.Option.{option_map_or}
 use Rattle.std.proofs.lemmas.Option.{none-some, same_Some, slice_get_within}
@@ -23,7 +23,7 @@ use Rattle.branch_layout.specs.Goals.{aimed, goal_of, placed_instr, Reaches, Ste
 use Rattle.branch_layout.specs.Codes.{NumbersHaveCodes}
 use Rattle.branch_layout.specs.Given.{goals_of, CanLay}
 use Rattle.branch_layout.specs.Layouts.{ArePlaces}
-use Rattle.branch_layout.specs.Coding.{offset_of, IsCopy, CanCode, AllCanCode}
+use Rattle.branch_layout.specs.Coding.{offset_of, IsCopy, AllCanCode}
 use Rattle.branch_layout.specs.Reached.{GoalsAreReached}
 use Rattle.branch_layout.proofs.WithinFacts.{all_zip_at}
 use Rattle.branch_layout.proofs.GoalFacts.{end_low, end_reached, back_low, aims, is_long, landing_reached, zero_reached, target_found, word_found}

@@ -1,9 +1,9 @@
 -- In places without faults each copy of a step with a goal reaches it.
-use Rattle.std.proofs.Common.{◌≡◌, ◌≤◌, ◌<◌, ℕ, zero, suc, ◌+◌, ◌*◌, ◌%◌, ◌/◌, ◌^◌, List, [], ◌∷◌, length, map, take, Bool, true, false, refl, sym, ap, ◌∙◌, subst, arith, Option, Some, None, All, add-one, max}
-use Rattle.std.specs.Prelude.{slice_get, nat_le, is_some, if◌then◌else◌, Contains}
+use Rattle.std.proofs.Common.{◌≡◌, ◌≤◌, ◌<◌, ℕ, zero, suc, ◌+◌, ◌*◌, ◌%◌, ◌^◌, List, length, map, take, Bool, true, false, refl, ap, ◌∙◌, subst, arith, Option, Some, None, All, add-one, max}
+use Rattle.std.specs.Prelude.{slice_get, nat_le, is_some, if◌then◌else◌}
 use Rattle.std.specs.Option.{option_map, option_map_or, option_and_then}
 use Rattle.std.proofs.lemmas.Bool.{leb-true, leb-false}
-use Rattle.std.proofs.lemmas.Option.{none-some, same_Some, slice_get-map, slice_get_within}
+use Rattle.std.proofs.lemmas.Option.{slice_get-map, slice_get_within}
 use Rattle.std.proofs.lemmas.List.{length-map}
 use Rattle.std.proofs.lemmas.List.Elements.{All-contains, All-weaker}
 use Rattle.std.proofs.lemmas.Slice.Zip.{AllZip-long}
@@ -14,14 +14,13 @@ use Rattle.thumb_instr.specs.declared.instructions.Instr.TheVariants as instr
 use Rattle.thumb_encode.specs.declared.codes.Width.{Width}
 use Rattle.thumb_encode.specs.declared.codes.Width.TheVariants.{Half, Full}
 use Rattle.seq_core.specs.declared.steps.Step.{Step}
-use Rattle.seq_core.specs.declared.steps.Goal.{Goal}
-use Rattle.seq_core.specs.declared.steps.Goal.TheVariants.{Nowhere, End, Landing, Target, Word}
+use Rattle.seq_core.specs.declared.steps.Goal.TheVariants.{Landing, Target, Word}
 use Rattle.seq_core.specs.declared.units.Unit.{Unit as SeqUnit}
 use Rattle.flow_recover.specs.declared.flows.PoolWord.{PoolWord}
-use Rattle.hardened_form.specs.Places.{UnitPlace, Places}
+use Rattle.hardened_form.specs.Places.{UnitPlace}
 use Rattle.branch_layout.specs.Copies.{copies_of, bytes_of, length_of, bytes_before}
 use Rattle.branch_layout.specs.Widths.{IsShortest, IsLong, AreLong}
-use Rattle.branch_layout.specs.Placings.{Stretch, Placing, place_of as stretch_place, places_of, landing_of, IsStretch, IsPlacing, word_point}
+use Rattle.branch_layout.specs.Placings.{Stretch, Placing, place_of as stretch_place, places_of, landing_of, IsStretch, word_point}
 use Rattle.branch_layout.specs.Goals.{base_of, start_of, target_of, word_of, distance, AreNear}
 use Rattle.branch_layout.specs.Given.{IsTarget, IsLoaded, CanAim, CanStand, CanLay}
 use Rattle.branch_layout.specs.Faults.{load_distance, LoadsFrom}

@@ -1,36 +1,17 @@
 -- The sequences that builders give lead to their goals.
-use Rattle.std.proofs.Common.{◌≡◌, ◌≤◌, ◌<◌, ℕ, zero, suc, ◌+◌, List, [], ◌∷◌, ◌++◌, length, map, Bool, true, false, refl, sym, ap, ◌∙◌, subst, arith, inl, inr, Option, Some, None, All}
-use Rattle.std.specs.Prelude.{slice_get, Contains}
-use Rattle.std.proofs.lemmas.Option.{none-some, same_Some, slice_get_within}
+use Rattle.std.proofs.Common.{◌≡◌, ◌<◌, ℕ, zero, suc, ◌+◌, List, [], ◌∷◌, ◌++◌, length, refl, sym, subst, arith, inl, inr, Some, All}
+use Rattle.std.specs.Prelude.{slice_get}
+use Rattle.std.proofs.lemmas.Option.{none-some, same_Some}
 use Rattle.std.proofs.lemmas.List.{length-append}
 use Rattle.std.proofs.lemmas.List.Elements.{All-nil, All-cons}
-use Rattle.elf_model.proofs.Elements.{contains_here, contains_later, contains_at, contains_none, contains_cases}
-use Rattle.thumb_instr.specs.declared.conditions.Cond.{Cond}
-use Rattle.thumb_instr.specs.declared.places.Place.{Place}
-use Rattle.thumb_instr.specs.declared.places.Place.TheVariants as place
-use Rattle.thumb_instr.specs.declared.places.PairIndex.{PairIndex}
-use Rattle.thumb_instr.specs.declared.places.PairIndex.TheVariants as index
-use Rattle.thumb_instr.specs.declared.register_sets.RegSet.{RegSet}
-use Rattle.thumb_instr.specs.declared.instructions.Instr.{Instr}
+use Rattle.elf_model.proofs.Elements.{contains_here, contains_at}
 use Rattle.thumb_instr.specs.declared.instructions.Instr.TheVariants as instr
-use Rattle.thumb_instr.specs.Fields.{ZeroBranchFields}
-use Rattle.thumb_instr.specs.Idempotence.{IsIdempotent, is_apart}
-use Rattle.seq_core.specs.declared.classes.Class.{Class}
-use Rattle.seq_core.specs.declared.classes.Class.TheVariants as class
 use Rattle.seq_core.specs.declared.steps.Step.{Step}
-use Rattle.seq_core.specs.declared.steps.Goal.{Goal}
-use Rattle.seq_core.specs.declared.steps.Goal.TheVariants.{Nowhere, End, Landing, Target, Word}
-use Rattle.seq_core.specs.declared.units.Unit.{Unit as SeqUnit}
-use Rattle.seq_core.specs.Series.{Series}
+use Rattle.seq_core.specs.declared.steps.Goal.TheVariants.{Nowhere, End, Target}
 use Rattle.seq_core.specs.Groups.{branching}
-use Rattle.seq_core.specs.Classes.{IsOf}
-use Rattle.seq_core.specs.Straight.{own_goal}
-use Rattle.seq_core.specs.Built.{as_steps}
-use Rattle.seq_core.specs.Builders.{HasRow, CanBuild, AreCoded}
-use Rattle.seq_core.specs.Replaced.{replaced, leading}
-use Rattle.flow_recover.specs.declared.flows.PoolWord.{PoolWord}
-use Rattle.branch_layout.specs.Given.{goals_of, CanAim, CanStand}
-use Rattle.branch_layout.specs.Leading.{CanLead, AllLead, LeadsAs, AllLeadAs, built, guarded, landed, GuardedLead, LandedLead, HasGoals, LeadingStand}
+use Rattle.seq_core.specs.Builders.{HasRow, AreCoded}
+use Rattle.seq_core.specs.Replaced.{leading}
+use Rattle.branch_layout.specs.Leading.{CanLead, guarded, landed, GuardedLead, LandedLead, LeadingStand}
 use Rattle.branch_layout.proofs.Lists.{get_push_cases}
 
 pub coded_at : (steps : List Step) (k : ℕ) (s : Step) → AreCoded steps → slice_get steps k ≡ Some s → HasRow s.instr

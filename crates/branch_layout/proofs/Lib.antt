@@ -15,3 +15,7 @@ pub mod CodingFacts
 pub mod CodesFacts
 pub mod LeadingFacts
 pub mod BuiltFacts
+pub mod OnePlacing
+pub mod LeadsFacts
+pub mod LaidFacts
+pub mod ApartFacts

@@ -77,7 +77,7 @@ pub record IsBetween (x size : ℕ) (it : Item) : Type 0 where
   pub even : it.new % 2 ≡ 0
   pub even_end : it.end % 2 ≡ 0
 
-starts : (word : Bool) (x : ℕ) → x % 2 ≡ 0 → (x ≤ new_start word x) × (new_start word x % 2 ≡ 0)
+pub starts : (word : Bool) (x : ℕ) → x % 2 ≡ 0 → (x ≤ new_start word x) × (new_start word x % 2 ≡ 0)
 starts false x e = (omega arith, e)
 starts true x e = (omega arith, omega arith)
 
@@ -129,7 +129,7 @@ pub record IsWithin (sizes : List ℕ) (section start end : ℕ) : Type 0 where
   pub even_end : end % 2 ≡ 0
 
 module _ (units : List SeqUnit) (words : List PoolWord) (p : Placing) (placing : IsPlacing units words p) where
-  item_is_even : (it : Item) → Contains placing.items it → IsEven it
+  pub item_is_even : (it : Item) → Contains placing.items it → IsEven it
   item_is_even it h = elim (Contains-append_cases (map item_of_unit (zip (map unit_point units) (map stretch_place p.units))) (map item_of_word (zip (map word_point words) p.words)) it ((placing.of.same it).0 h)) [
     | inl left ↦
         let from = contains_map item_of_unit (zip (map unit_point units) (map stretch_place p.units)) it left in

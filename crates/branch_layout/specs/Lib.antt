@@ -9,4 +9,7 @@ pub mod Layouts
 pub mod Standing
 pub mod Coding
 pub mod Reached
+pub mod Once
+pub mod Leads
+pub mod Laid
 pub mod Leading

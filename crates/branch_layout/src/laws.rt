@@ -1,6 +1,9 @@
 //! Laws of layouts. The functions do nothing: their contracts are the laws.
 
 ghost use Rattle.branch_layout.specs.Codes.{NumbersHaveCodes};
+ghost use Rattle.branch_layout.specs.Laid.{LayoutsAreLaid, NoUnitAtWord};
+ghost use Rattle.branch_layout.specs.Leads.{CopiesReach, NumbersLead};
+ghost use Rattle.branch_layout.specs.Once.{PlacingsAreOne};
 ghost use Rattle.branch_layout.specs.Reached.{GoalsAreReached};
 ghost use Rattle.branch_layout.specs.Leading.{BuiltLead, GuardedLead, LandedLead, LeadAs, LeadingStand};
 
@@ -37,4 +40,26 @@ pub fn sequences_lead()
 /// A unit of such a sequence can stand where its targets and words are there.
 pub fn leading_units_stand()
     ensures { LeadingStand }
+{}
+
+/// A placing is the only one for its widths, whatever these are.
+pub fn placings_are_one()
+    ensures { PlacingsAreOne }
+{}
+
+/// In a section of code that starts at a multiple of 4 the machine makes of such a number the goal's address. So what
+/// stands for a step reaches its goal as the laws of sequences ask.
+pub fn numbers_lead()
+    ensures numbers { NumbersLead }
+    ensures copies { CopiesReach }
+{}
+
+/// A layout has the places of its placing, with its units in their order.
+pub fn layouts_are_laid()
+    ensures { LayoutsAreLaid }
+{}
+
+/// No unit with bytes begins at a word.
+pub fn no_unit_is_at_a_word()
+    ensures { NoUnitAtWord }
 {}

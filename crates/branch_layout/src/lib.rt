@@ -10,7 +10,10 @@ mod reach;
 mod standing;
 mod stretches;
 
-pub use laws::{goals_are_reached, leading_units_stand, numbers_have_codes, sequences_lead};
+pub use laws::{
+    goals_are_reached, layouts_are_laid, leading_units_stand, no_unit_is_at_a_word,
+    numbers_have_codes, numbers_lead, placings_are_one, sequences_lead,
+};
 pub use laying::{lay, places};
 pub use standing::Placing;
 pub use stretches::Stretch;

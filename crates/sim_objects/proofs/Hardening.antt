@@ -1,30 +1,22 @@
 -- Calls of two lists of pairs end alike: by a chart of them, whose addresses the maps follow.
-use Rattle.std.specs.Prelude.{◌≤◌, ℕ, true, List, Option, Some, None}
+use Rattle.std.specs.Prelude.{ℕ, true, List, Option, Some, None}
 use Rattle.std.proofs.Common.{arith}
 use Rattle.elf_model.specs.declared.objects.MapRow.{MapRow}
 use Rattle.mark_word.specs.declared.cells.Piece.{Piece}
 use Rattle.mark_word.specs.declared.marks.Mark.{Mark}
 use Rattle.mark_word.specs.declared.marks.Mark.TheVariants as mark
-use Rattle.thumb_table.specs.declared.placements.Placement.{Placement}
 use Rattle.thumb_table.specs.Parts.{Image}
 use Rattle.thumb_table.specs.States.{State}
 use Rattle.thumb_table.specs.Calls.{start}
-use Rattle.sim_charts.specs.Charts.{Chart}
 use Rattle.sim_charts.specs.Words as words
 use Rattle.sim_charts.specs.Maps.{MappedState}
-use Rattle.sim_charts.specs.Linked.{Linked}
 use Rattle.sim_charts.proofs.Mapped.{ends_mapped}
 use Rattle.sim_relation.specs.AddressMaps.{SameBits, SameByte, SameState}
-use Rattle.sim_objects.specs.Lists.{Pairing, HaveImages}
-use Rattle.sim_objects.specs.Charts.{IsChartOf}
 use Rattle.sim_objects.specs.Mapping.{maps_of, by_maps}
-use Rattle.sim_objects.specs.Hardening.{AllSkip, ControlGoesOn, ListsEndAlike}
-use Rattle.sim_objects.proofs.Even.{places_are_even}
+use Rattle.sim_objects.specs.Hardening.{ListsEndAlike}
+use Rattle.sim_objects.proofs.Going.{pairs_are_linked}
 use Rattle.sim_objects.proofs.Existing.{lists_have_charts}
-use Rattle.sim_objects.proofs.Meeting.{units_meet}
 use Rattle.sim_objects.proofs.Skipping.{all_may_skip}
-use Rattle.sim_objects.proofs.Together.{units_are_linked}
-use Rattle.sim_objects.proofs.Linking.{lists_are_linked}
 use Rattle.sim_objects.proofs.Mapping.{charts_follow_maps}
 use Rattle.sim_objects.proofs.Beginning.{calls_begin}
 
@@ -46,19 +38,10 @@ module _ (plain hard : Image) (maps : List (List MapRow)) where
     registers = record { given = λ r lt. bits_same _ _ _ (m.given r lt); kept = λ r low lt. bits_same _ _ _ (m.kept r low lt) };
   }
 
--- the images are linked unit by unit
-pub linked_lists : (F c K : ℕ) (pairs : List (Pairing F c K)) (at : Placement) (plain hard : Image) (chart : Chart) → K ≤ 4 → HaveImages F c K pairs at plain hard → IsChartOf F c K pairs at chart
-    → AllSkip pairs → ControlGoesOn F c K pairs at plain → Linked chart plain.code hard.code c K F (λ a. true)
-linked_lists F c K pairs at plain hard chart few images is all goes =
-    lists_are_linked F c K pairs at plain hard chart (λ a. true) few images is
-    (units_are_linked F c K pairs at plain hard chart (λ a. true) images is
-    (record { even = places_are_even F c K pairs at plain hard chart images is; goes = goes chart is; meets = units_meet F c K pairs at plain hard chart images is })
-    (all_may_skip F c K pairs at all (λ a. true)))
-
 pub lists_end_alike : ListsEndAlike
-lists_end_alike F pairs at plain hard images all goes name args entry named n ended returns ordinary =
+lists_end_alike F pairs at plain hard images all name args entry named n ended returns ordinary =
     let c = lists_have_charts F 2 4 pairs at plain hard images in
-    let linked = linked_lists F 2 4 pairs at plain hard c.0 (omega arith) images c.1 all goes in
+    let linked = pairs_are_linked F 2 4 pairs at plain hard c.0 (λ a. true) (omega arith) images c.1 (all_may_skip F 2 4 pairs at all (λ a. true)) in
     let follows = charts_follow_maps F 2 4 pairs at plain hard c.0 images c.1 in
     let begun = calls_begin F 2 4 pairs at plain hard c.0 images c.1 name args entry at.stack named in (
       begun.0,

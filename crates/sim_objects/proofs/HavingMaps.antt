@@ -26,7 +26,7 @@ use Rattle.hardened_form.specs.Symbols.{size_of}
 use Rattle.sim_answers.proofs.PointPlaces.{at_point}
 use Rattle.sim_images.proofs.EntriesAlike.{same_self}
 use Rattle.sim_objects.specs.Lists.{Pairing}
-use Rattle.sim_objects.specs.Mapping.{PairsHaveMaps}
+use Rattle.sim_objects.specs.HavingMaps.{PairsHaveMaps}
 use Rattle.sim_objects.proofs.Moving.{zip_at}
 use Rattle.sim_objects.proofs.Leading.{point_inside}
 

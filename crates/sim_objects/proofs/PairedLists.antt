@@ -66,11 +66,11 @@ paired_up F high (o ∷ ins) (h ∷ outs) l each =
     first_too q pairs first all (suc i) r x e = all i r x e
 
 pub paired_lists_harden : PairedListsHarden
-paired_lists_harden has goes ins outs F low high are =
+paired_lists_harden has ins outs F low high are =
     let z = paired_up F high ins outs are.count are.paired in
     subst (λ (l : List ObjectParts). Hardened l outs F) z.1.plain
     (subst (λ (l : List ObjectParts). Hardened (plains z.0) l F) z.1.hard
-    (pairs_harden has goes F z.0 low high
+    (pairs_harden has F z.0 low high
     (record {
       objects = subst AreObjects (sym z.1.plain) are.objects;
       forms = subst AreObjects (sym z.1.hard) are.forms;

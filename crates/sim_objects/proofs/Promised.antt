@@ -34,7 +34,7 @@ module _ (F : ℕ) (pairs : List (Pairing F 2 4)) where
           (subst (λ (r : List MapRow). HasMap q.0.hard r) one (pairs_have_maps F 2 4 q.0 (omega arith) is.few is.small is.unnamed))
 
 pub pairs_harden : PairsHarden
-pairs_harden has goes F pairs low high inputs = record {
+pairs_harden has F pairs low high inputs = record {
   maps = maps_of pairs;
   count = same_length F 2 4 pairs;
   are_maps = are_maps F pairs inputs;
@@ -51,5 +51,5 @@ pairs_harden has goes F pairs low high inputs = record {
       ];
   alike = λ at plain hard is hard_is name args given entry named n ended returns ordinary.
       let images : HaveImages F 2 4 pairs at plain hard = record { objects = inputs.objects; forms = inputs.forms; image = is; hard_image = hard_is } in
-      lists_end_alike F pairs at plain hard images inputs.all (goes F pairs at plain hard images) name args entry named n ended returns ordinary;
+      lists_end_alike F pairs at plain hard images inputs.all name args entry named n ended returns ordinary;
 }

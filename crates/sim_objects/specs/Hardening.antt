@@ -8,21 +8,14 @@ use Rattle.thumb_table.specs.Schedules.{IsLegal, Returns, OrdinaryRun}
 use Rattle.thumb_table.specs.Images.{entry_of}
 use Rattle.thumb_table.specs.Calls.{start}
 use Rattle.flow_recover.specs.declared.flows.Point.{Point as FlowPoint}
-use Rattle.sim_charts.specs.Charts.{Chart, Point}
-use Rattle.sim_charts.specs.Flows.{Continues}
 use Rattle.sim_relation.specs.AddressMaps.{TakesEntry}
 use Rattle.sim_relation.specs.Hardened.{EndsAlike}
 use Rattle.sim_objects.specs.Lists.{Pairing, HaveImages}
-use Rattle.sim_objects.specs.Charts.{IsChartOf}
 use Rattle.sim_objects.specs.Mapping.{maps_of}
 
 -- steps may be skipped in all units
 abbrev pub AllSkip : {F c K : ℕ} → List (Pairing F c K) → Type 0
 AllSkip {F} {c} {K} pairs = (i : ℕ) (q : Pairing F c K) (x : FlowPoint) → slice_get pairs i ≡ Some q → q.may_skip x ≡ true
-
--- Control goes on at each point as in the chart.
-abbrev pub ControlGoesOn : (F c K : ℕ) (pairs : List (Pairing F c K)) (at : Placement) (plain : Image) → Type 0
-ControlGoesOn F c K pairs at plain = (chart : Chart) → IsChartOf F c K pairs at chart → (a : ℕ) (p : Point) → chart a ≡ Some p → Continues chart plain.code a p
 
 -- A call of a name that returns by n ordinary steps has its call in the hardened image, at the name's address under the
 -- maps: it returns alike within F times the steps, whatever is skipped, so long as no two steps in a row are.
@@ -33,7 +26,7 @@ CallEndsAlike F plain hard maps at name args entry n ended =
 
 abbrev pub ListsEndAlike : Type 0
 ListsEndAlike =
-    (F : ℕ) (pairs : List (Pairing F 2 4)) (at : Placement) (plain hard : Image) → HaveImages F 2 4 pairs at plain hard → AllSkip pairs → ControlGoesOn F 2 4 pairs at plain
+    (F : ℕ) (pairs : List (Pairing F 2 4)) (at : Placement) (plain hard : Image) → HaveImages F 2 4 pairs at plain hard → AllSkip pairs
     → (name args : List ℕ) (entry : ℕ) → entry_of plain.entries name ≡ Some entry
     → (n : ℕ) (ended : State) → Returns plain.code (λ i. false) n 0 (start plain at.stack entry args) ended → OrdinaryRun plain.code (λ i. false) n 0 (start plain at.stack entry args)
     → CallEndsAlike F plain hard (maps_of pairs) at name args entry n ended

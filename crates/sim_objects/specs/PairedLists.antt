@@ -4,7 +4,7 @@ use Rattle.elf_model.specs.Objects.{ObjectParts}
 use Rattle.sim_images.specs.ImageLaws.{AreObjects}
 use Rattle.sim_relation.specs.Pairs.{Paired, everywhere}
 use Rattle.sim_relation.specs.Hardened.{Hardened}
-use Rattle.sim_objects.specs.Promised.{IsInput, HasImage, GoesOnInImages}
+use Rattle.sim_objects.specs.Promised.{IsInput, HasImage}
 
 -- for two copies and four results, with factors of at most F
 pub record ArePairedLists (ins outs : List ObjectParts) (F : ℕ) : Type 0 where
@@ -15,4 +15,4 @@ pub record ArePairedLists (ins outs : List ObjectParts) (F : ℕ) : Type 0 where
   pub paired : (i : ℕ) (o h : ObjectParts) → slice_get ins i ≡ Some o → slice_get outs i ≡ Some h → (G : ℕ) × (G ≤ F) × Paired o h G 2 4 everywhere
 
 abbrev pub PairedListsHarden : Type 0
-PairedListsHarden = HasImage → GoesOnInImages → (ins outs : List ObjectParts) (F : ℕ) → 1 ≤ F → F ≤ 16 → ArePairedLists ins outs F → Hardened ins outs F
+PairedListsHarden = HasImage → (ins outs : List ObjectParts) (F : ℕ) → 1 ≤ F → F ≤ 16 → ArePairedLists ins outs F → Hardened ins outs F

@@ -9,8 +9,8 @@ use Rattle.thumb_table.specs.Layouts.{IsPlacement}
 use Rattle.thumb_table.specs.Images.{CanLink, IsImage}
 use Rattle.sim_images.specs.ImageLaws.{AreObjects}
 use Rattle.sim_relation.specs.Hardened.{Hardened}
-use Rattle.sim_objects.specs.Lists.{Pairing, plains, hards, HaveImages}
-use Rattle.sim_objects.specs.Hardening.{AllSkip, ControlGoesOn}
+use Rattle.sim_objects.specs.Lists.{Pairing, plains, hards}
+use Rattle.sim_objects.specs.Hardening.{AllSkip}
 
 -- an object with few sections and little code, of which no section has the name of a map
 pub record IsInput (o : ObjectParts) : Type 0 where
@@ -29,9 +29,6 @@ pub record AreInputs (F : ℕ) (pairs : List (Pairing F 2 4)) : Type 0 where
 abbrev pub HasImage : Type 0
 HasImage = (F : ℕ) (pairs : List (Pairing F 2 4)) (at : Placement) → AreObjects (hards pairs) → IsPlacement at → CanLink (hards pairs) at → (hard : Image) × IsImage (hards pairs) at hard
 
-abbrev pub GoesOnInImages : Type 0
-GoesOnInImages = (F : ℕ) (pairs : List (Pairing F 2 4)) (at : Placement) (plain hard : Image) → HaveImages F 2 4 pairs at plain hard → ControlGoesOn F 2 4 pairs at plain
-
 -- Then they are hardened.
 abbrev pub PairsHarden : Type 0
-PairsHarden = HasImage → GoesOnInImages → (F : ℕ) (pairs : List (Pairing F 2 4)) → 1 ≤ F → F ≤ 16 → AreInputs F pairs → Hardened (plains pairs) (hards pairs) F
+PairsHarden = HasImage → (F : ℕ) (pairs : List (Pairing F 2 4)) → 1 ≤ F → F ≤ 16 → AreInputs F pairs → Hardened (plains pairs) (hards pairs) F

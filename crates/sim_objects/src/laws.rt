@@ -7,11 +7,13 @@ ghost use Rattle.sim_objects.specs.Even.{PlacesAreEven};
 ghost use Rattle.sim_objects.specs.Existing.{ListsHaveCharts};
 ghost use Rattle.sim_objects.specs.Exits.{NothingAtExit};
 ghost use Rattle.sim_objects.specs.Following.{UnitsFollow};
+ghost use Rattle.sim_objects.specs.Going.{PairsAreLinked, PointsGoOn};
 ghost use Rattle.sim_objects.specs.Growth.{PairsAreShort};
 ghost use Rattle.sim_objects.specs.Hardening.{ListsEndAlike};
+ghost use Rattle.sim_objects.specs.HavingMaps.{PairsHaveMaps};
 ghost use Rattle.sim_objects.specs.Linking.{ListsAreLinked};
 ghost use Rattle.sim_objects.specs.Living.{PointsLive, PointsSpare};
-ghost use Rattle.sim_objects.specs.Mapping.{ChartsFollowMaps, PairsHaveMaps};
+ghost use Rattle.sim_objects.specs.Mapping.{ChartsFollowMaps};
 ghost use Rattle.sim_objects.specs.Meeting.{UnitsMeet};
 ghost use Rattle.sim_objects.specs.Moving.{EntriesAreCharted, LinksEnter, MovesAreCharted};
 ghost use Rattle.sim_objects.specs.PairedLists.{PairedListsHarden};
@@ -143,14 +145,29 @@ pub fn calls_begin()
     ensures { CallsBegin }
 {}
 
-/// What a chart takes for addresses of code, the maps of the hardened objects take.
+/// A hardened object has its map.
+pub fn pairs_have_maps()
+    ensures { PairsHaveMaps }
+{}
+
+/// Control goes on in a chart as it does in the plain image.
+pub fn points_go_on()
+    ensures { PointsGoOn }
+{}
+
+/// The images of two lists of pairs are linked unit by unit.
+pub fn pairs_are_linked()
+    ensures { PairsAreLinked }
+{}
+
+/// The maps of the hardened objects take each entry and return address to where the chart does.
 pub fn charts_follow_maps()
     ensures { ChartsFollowMaps }
 {}
 
-/// A hardened object has its map.
-pub fn pairs_have_maps()
-    ensures { PairsHaveMaps }
+/// Calls of two lists of pairs end alike under their maps.
+pub fn lists_end_alike()
+    ensures { ListsEndAlike }
 {}
 
 /// No code section of a hardened object is longer than 32 times its plain one, for two copies.
@@ -158,13 +175,7 @@ pub fn pairs_are_short()
     ensures { PairsAreShort }
 {}
 
-/// Where control goes on as in the chart, calls of two lists of pairs end alike under their maps.
-pub fn lists_end_alike()
-    ensures { ListsEndAlike }
-{}
-
-/// Hardened objects of lists of pairs are the objects, hardened, where lists that can be linked have images and control
-/// goes on in them as in charts.
+/// Hardened objects of lists of pairs are the objects, hardened, where lists that can be linked have images.
 pub fn pairs_harden()
     ensures { PairsHarden }
 {}

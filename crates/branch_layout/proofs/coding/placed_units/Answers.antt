@@ -1,11 +1,10 @@
-use Rattle.std.proofs.Common.{◌≡◌, ◌≤◌, ◌<◌, ◌+◌, ◌++◌, ◌∷◌, [], List, length, take, min, arith, ap, ◌∙◌, sym, subst, refl, rules, Some}
+use Rattle.std.proofs.Common.{◌≡◌, ◌≤◌, ◌<◌, ◌+◌, ◌++◌, ◌∷◌, [], List, length, take, min, arith, ap, sym, subst, refl, rules, Some}
 use Rattle.std.specs.Prelude.{slice_get}
 use Rattle.std.specs.List.{AllZip, zip}
 use Rattle.std.proofs.lemmas.Option.{slice_get_read}
 use Rattle.std.proofs.lemmas.List.{take_all}
 use Rattle.std.proofs.lemmas.Slice.Zip.{AllZip-long, length-zip}
 use Rattle.seq_core.specs.declared.units.Unit.{Unit as SeqUnit}
-use Rattle.seq_core.specs.Places.{PlacedParts}
 use Rattle.branch_layout.specs.Placings.{Stretch, Placing, places_of, IsStretch}
 use Rattle.branch_layout.specs.Layouts.{IsPlacedUnit}
 use Rattle.branch_layout.proofs.Lists.{take_push, all_zip_push}
