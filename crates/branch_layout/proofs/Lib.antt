@@ -9,3 +9,9 @@ pub mod ReachFacts
 pub mod FaultFacts
 pub mod ZeroFacts
 pub mod CodeFacts
+pub mod StepCopies
+pub mod GoalFacts
+pub mod CodingFacts
+pub mod CodesFacts
+pub mod LeadingFacts
+pub mod BuiltFacts

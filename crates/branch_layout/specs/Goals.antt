@@ -26,9 +26,13 @@ aimed at to (instr.Adr i) = instr.Adr (record i { up = true; imm = to + 1 - base
 aimed at to (instr.Literal i) = if nat_le (base_of at) to then instr.Literal (record i { up = true; imm = to - base_of at }) else instr.Literal (record i { up = false; imm = base_of at - to })
 aimed at to i = i
 
+-- where the unit with an index begins
+abbrev pub start_of : Places → ℕ → Option ℕ
+start_of p k = option_map (λ (r : UnitPlace). r.start) (slice_get p.units k)
+
 -- A branch with a relocation leads to itself, by the number -4: its target is reached by the relocation.
 abbrev pub target_of : Places → SeqUnit → ℕ → Option ℕ
-target_of p u at = if is_some u.reloc then Some at else option_and_then (λ k. option_map (λ (r : UnitPlace). r.start) (slice_get p.units k)) u.target
+target_of p u at = if is_some u.reloc then Some at else option_and_then (start_of p) u.target
 
 abbrev pub word_of : Places → SeqUnit → Option ℕ
 word_of p u = option_and_then (λ k. slice_get p.words k) u.word
@@ -67,3 +71,10 @@ Reaches at to i = ⊤
 
 abbrev pub StepReaches : Places → SeqUnit → UnitPlace → ℕ → Step → Type 0
 StepReaches p u q at s = (to : ℕ) → goal_of p u q at s.goal ≡ Some to → (to < 2 ^ 31) × Reaches at to s.instr
+
+-- The step has a goal, and reaches it.
+pub record ReachesGoal (p : Places) (u : SeqUnit) (q : UnitPlace) (at : ℕ) (s : Step) : Type 0 where
+  pub to : ℕ
+  pub goal : goal_of p u q at s.goal ≡ Some to
+  pub low : to < 2 ^ 31
+  pub reaches : Reaches at to s.instr

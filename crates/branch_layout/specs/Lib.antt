@@ -7,3 +7,6 @@ pub mod Given
 pub mod Faults
 pub mod Layouts
 pub mod Standing
+pub mod Coding
+pub mod Reached
+pub mod Leading

@@ -2,6 +2,7 @@
 #![tactic(auto)]
 
 mod aiming;
+mod coding;
 mod copies;
 mod laws;
 mod laying;
@@ -9,7 +10,7 @@ mod reach;
 mod standing;
 mod stretches;
 
-pub use laws::numbers_have_codes;
-pub use laying::places;
+pub use laws::{goals_are_reached, leading_units_stand, numbers_have_codes, sequences_lead};
+pub use laying::{lay, places};
 pub use standing::Placing;
 pub use stretches::Stretch;

@@ -8,7 +8,7 @@ ghost use Rattle.branch_layout.specs.Standing.{StandsAt, StandsOn, TakesUnit, Ta
 
 use crate::stretches::{Stretch, stretch_of};
 use flow_recover::PoolWord;
-use seq_core::Unit;
+use seq_core::{Layout, PlacedUnit, Unit};
 use std::alloc::{AllocError, Global};
 use std::marker::Model;
 
@@ -48,6 +48,13 @@ impl Placing {
         ensures { result.now ≡ self.now.sizes }
     {
         &self.sizes
+    }
+
+    /// The layout with these units in place of the stretches.
+    pub(crate) fn layout_of(self, units: Vec<PlacedUnit>) -> Layout
+        ensures { result ≡ record { units = units.items; words = self.words; sizes = self.sizes } }
+    {
+        Layout::new(units, self.words, self.sizes)
     }
 }
 

@@ -8,3 +8,10 @@ pub mod MarkFacts
 pub mod MappingFacts
 pub mod RowBytes
 pub mod MoveFacts
+pub mod FirstFacts
+pub mod ItemFacts
+pub mod MovedFacts
+pub mod NumberFacts
+pub mod SymbolNames
+pub mod SoundSymbols
+pub mod WholeSymbols

@@ -1,5 +1,5 @@
 -- A layout of a flow, and hardened objects with its sizes.
-use Rattle.std.specs.Prelude.{◌≡◌, ℕ, true, false, List, length, Some, slice_get, slice_index}
+use Rattle.std.specs.Prelude.{◌≡◌, ◌<◌, ℕ, ◌+◌, ◌^◌, true, false, List, length, Some, slice_get, slice_index, Contains}
 use Rattle.elf_model.specs.declared.objects.Section.{Section}
 use Rattle.elf_model.specs.Objects.{ObjectParts, is_code}
 use Rattle.flow_recover.specs.declared.flows.Point.{Point}
@@ -26,3 +26,13 @@ pub record HasSizes (o h : ObjectParts) (sizes : List ℕ) : Type 0 where
   pub olds : (j : ℕ) (t : Section) → slice_get h.sections j ≡ Some t → is_code t ≡ true → HasCode o.sections j
   pub news : (j : ℕ) (s : Section) → slice_get o.sections j ≡ Some s → is_code s ≡ true → HasCode h.sections j
   pub same : (j : ℕ) (t : Section) → slice_get h.sections j ≡ Some t → is_code t ≡ true → t.size ≡ slice_index sizes j
+
+-- a unit begins at an offset
+pub record BeginsAt (units : List PlacedParts) (at : ℕ) : Type 0 where
+  pub unit : PlacedParts
+  pub there : Contains units unit
+  pub begins : unit.start ≡ at
+
+-- a place with bit 0 set is a number of 32 bits
+abbrev pub IsLow : PlacedParts → Type 0
+IsLow u = u.start + 1 < 2 ^ 32

@@ -8,3 +8,7 @@ pub mod WordPlaces
 pub mod Marks
 pub mod Laid
 pub mod TargetSymbols
+pub mod FirstItems
+pub mod Numbering
+pub mod MovedSymbols
+pub mod LieInside

@@ -1,11 +1,15 @@
 //! The hardened object: tables and bytes for a layout.
 #![tactic(auto)]
 
+mod first_items;
 mod lasting;
 mod map_section;
 mod mapping;
 mod marks;
+mod moved_symbols;
 mod moves;
+mod new_symbols;
+mod numbers;
 mod rows;
 mod target_symbols;
 mod targets;

@@ -15,7 +15,7 @@ use seq_core::{Layout, PlacedUnit};
 use std::alloc::{AllocError, Global};
 
 /// The number of each section among those of code, which is that of the next one where it has none.
-fn ordinals(alloc: Global, sections: &[Section]) -> Result<Vec<u32>, AllocError>
+pub(crate) fn ordinals(alloc: Global, sections: &[Section]) -> Result<Vec<u32>, AllocError>
     requires { length sections.now < 2 ^ 32 }
     ensures { IfOk result (λ list. list.items ≡ ordinals_from 0 sections.now) }
 {

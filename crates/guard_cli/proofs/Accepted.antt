@@ -1,18 +1,19 @@
 -- The works of `link` and of `list`: what is accepted is not refused.
-use Rattle.std.proofs.Common.{◌≡◌, ◌≤◌, inl, inr, ℕ, List, [], ◌∷◌, ◌++◌, length, refl, subst, arith}
+use Rattle.std.proofs.Common.{◌≡◌, ◌≤◌, inl, inr, ℕ, true, List, [], ◌∷◌, ◌++◌, length, refl, subst, arith}
 use Rattle.std.specs.Prelude.{All}
+use Rattle.std.specs.List.{list_all}
+use Rattle.std.proofs.lemmas.Bool.{and_from}
 use Rattle.std.proofs.lemmas.List.Elements.{All-nil, All-cons, All-head, All-tail}
 use Rattle.elf_model.specs.declared.refusals.Spot.{Spot}
 use Rattle.elf_model.specs.declared.refusals.Limit.{Limit}
 use Rattle.elf_model.specs.declared.refusals.TheConstants.Limit.{ANY}
-use Rattle.elf_model.specs.Objects.{ObjectParts}
+use Rattle.elf_model.specs.Objects.{ObjectParts, is_object}
 use Rattle.elf_model.proofs.OneObject.{only_one_object}
 use Rattle.thumb_table.specs.declared.placements.Placement.{Placement}
 use Rattle.thumb_table.specs.LinkFaults.{IsLinkRefusal}
 use Rattle.elf_read.specs.Faults.{IsFaultless}
 use Rattle.guard_cli.specs.Inputs.{IsReadAs, AreReadAs, IsReadRefusal}
-use Rattle.guard_cli.specs.Linkable.{IsLinkable}
-use Rattle.guard_cli.specs.LinkWork.{AreOf, IsFormRefusal, IsLinkInputRefusal, HaveImage}
+use Rattle.guard_cli.specs.LinkWork.{AreOf, IsLinkInputRefusal, HaveImage}
 use Rattle.guard_cli.specs.ListWork.{IsListRefusal, IsReadable}
 
 -- Files of these objects are of no others.
@@ -28,7 +29,7 @@ same_read l (f ∷ files) (o ∷ a) (p ∷ b) (h, hs) (k, ks) =
     cc
 
 pub same_objects : (files : List (List ℕ)) (a b : List ObjectParts) → AreOf files a → AreOf files b → a ≡ b
-same_objects files a b x y = same_read ANY files a b x.read y.read
+same_objects files a b x y = same_read ANY files a b x y
 
 -- what holds of each file that is read
 pub each_read : (l : Limit) (P : List ℕ → Type 0) → ((f : List ℕ) (o : ObjectParts) → IsReadAs l f o → P f) → (files : List (List ℕ)) (objects : List ObjectParts) → AreReadAs l files objects → All P files
@@ -51,13 +52,16 @@ read_is_accepted l files objects spot are (inr faulty) =
     let all = subst (All (λ (f : List ℕ). IsFaultless f l)) faulty.files_are (each_read l (λ f. IsFaultless f l) (λ f o h. h.faultless) files objects are) in
     at_middle (λ (f : List ℕ). IsFaultless f l) faulty.earlier faulty.file faulty.later all faulty.fault.refusal faulty.fault.section faulty.fault.offset faulty.first.fault
 
-form_is_accepted : (files : List (List ℕ)) (objects : List ObjectParts) (spot : Spot) → AreOf files objects → IsFormRefusal files spot → ⊥
-form_is_accepted files objects spot are (inl read) = read_is_accepted ANY files objects spot are.read read
-form_is_accepted files objects spot are (inr (is, (others, read, not))) = not (subst (All IsLinkable) (same_read ANY files objects others are.read read) are.form)
+-- and are objects
+pub are_objects : (l : Limit) (files : List (List ℕ)) (objects : List ObjectParts) → AreReadAs l files objects → list_all is_object objects ≡ true
+are_objects l [] [] h = refl
+are_objects l [] (o ∷ objects) h = absurd h
+are_objects l (f ∷ files) [] h = absurd h
+are_objects l (f ∷ files) (o ∷ objects) (h, hs) = and_from _ _ h.stands.sound (are_objects l files objects hs)
 
 -- Inputs whose objects have an image are not refused.
 pub image_is_accepted : (at : Placement) (files : List (List ℕ)) (spot : Spot) → HaveImage at files → IsLinkInputRefusal at files spot → ⊥
-image_is_accepted at files spot (objects, image, are, linked) (inl form) = form_is_accepted files objects spot are form
+image_is_accepted at files spot (objects, image, are, linked) (inl read) = read_is_accepted ANY files objects spot are read
 image_is_accepted at files spot (objects, image, are, linked) (inr (others, its, refusal)) =
     let same = same_objects files others objects its are in
     let here : IsLinkRefusal objects at spot = subst (λ (os : List ObjectParts). IsLinkRefusal os at spot) same refusal in

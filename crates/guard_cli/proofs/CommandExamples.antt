@@ -5,8 +5,6 @@ use Rattle.thumb_table.specs.declared.faults.FaultKind.TheVariants.{BadFetch}
 use Rattle.elf_model.specs.Objects.{is_code}
 use Rattle.thumb_table.specs.Images.{is_data}
 use Rattle.guard_cli.specs.Texts.{line, link_line, returned_line, stopped_line, unfinished_line, word_text}
-use Rattle.guard_cli.specs.Linkable.{IsLinkable}
-use Rattle.guard_cli.specs.FirstForm.{first_object}
 use Rattle.guard_cli.specs.Output.{hardened_object}
 use Rattle.guard_cli.specs.LinkWork.{bytes_of}
 
@@ -29,9 +27,6 @@ stopped = refl
 unfinished : unfinished_line 2 ≡ line (codes "unfinished after 2 steps")
 unfolding digits
 unfinished = refl
-
-plain_is_linkable : IsLinkable (first_object (0x2005 ∷ 0x4770 ∷ []))
-plain_is_linkable = record { relocs = refl }
 
 code_of_hardened : bytes_of is_code (hardened_object (0x2005 ∷ 0x4770 ∷ [])).sections ≡ 8
 code_of_hardened = refl

@@ -1,19 +1,23 @@
 -- An object that was read without fault under a limit has no more of anything than the limit says.
-use Rattle.std.proofs.Common.{◌≡◌, ◌≤◌, ◌<◌, ℕ, zero, suc, ◌+◌, ◌-◌, ◌*◌, ◌/◌, ◌&&◌, Bool, true, false, cond, leb, List, [], ◌∷◌, length, map, filter, Option, Some, None, inl, inr, refl, sym, ap, subst, ◌∙◌, arith, zero-add}
-use Rattle.std.specs.Prelude.{sum_by, IsTrue}
-use Rattle.std.proofs.lemmas.Bool.{and_from, cases_Bool}
+use Rattle.std.proofs.Common.{◌≡◌, ◌≤◌, ◌<◌, ℕ, zero, suc, ◌+◌, ◌-◌, ◌*◌, ◌/◌, ◌%◌, ◌&&◌, ◌||◌, Bool, true, false, cond, leb, List, [], ◌∷◌, length, map, filter, Option, Some, None, inl, inr, refl, sym, ap, subst, ◌∙◌, arith, zero-add}
+use Rattle.std.specs.Prelude.{sum_by, IsTrue, ◌==◌, not}
+use Rattle.std.specs.List.{list_any, flat_map}
+use Rattle.std.proofs.lemmas.Bool.{and_from, and_parts, cases_Bool, eqb-true, true≢false}
 use Rattle.std.proofs.lemmas.Bool.Decides.{nat_tests}
-use Rattle.std.proofs.lemmas.List.{length-map}
+use Rattle.std.proofs.lemmas.List.{length-map, length-append}
+use Rattle.std.proofs.lemmas.List.Concat.{flat_map-cons}
+use Rattle.std.proofs.lemmas.List.Sorted.{length_permutation}
 use Rattle.std.proofs.lemmas.List.Sums.{sum_by-cons}
 use Rattle.elf_model.specs.declared.objects.Section.{Section}
 use Rattle.elf_model.specs.declared.refusals.Limit.{Limit}
 use Rattle.elf_model.specs.declared.refusals.Refusal.TheVariants.{TooMany}
+use Rattle.elf_model.specs.Fields.{word_at}
 use Rattle.elf_model.specs.Objects.{ObjectParts, is_within, code_size, is_code}
-use Rattle.elf_model.specs.Files.{StandsFor, from, header, header_count, header_place, headers, kept_headers, kept_symbols, is_kept, is_kept_symbol, section_of, symbol_of, symbol_places, symbol_table}
-use Rattle.elf_read.specs.Faults.{IsFaultless, code_up_to, is_code_header}
-use Rattle.elf_read.specs.Faults.Fault.{many_headers, many_symbols, much_code}
-use Rattle.elf_read.specs.Keeping.{code_at}
-use Rattle.elf_read.proofs.LimitFaults.{code_more}
+use Rattle.elf_model.specs.Files.{StandsFor, from, header, header_count, header_place, headers, kept_headers, kept_symbols, is_kept, is_kept_symbol, is_reloc_table, entries_of, reloc_entries, reloc_of, section_of, symbol_of, symbol_places, symbol_table}
+use Rattle.elf_read.specs.Faults.{IsFaultless, relocs_up_to, code_up_to, is_code_header}
+use Rattle.elf_read.specs.Faults.Fault.{many_headers, many_symbols, many_relocs, much_code}
+use Rattle.elf_read.specs.Keeping.{code_at, is_kept_relocs, relocs_at}
+use Rattle.elf_read.proofs.LimitFaults.{code_more, relocs_more}
 use Rattle.elf_read.proofs.KeptSymbols.{length_made}
 use Rattle.elf_read.proofs.SymbolTable.{table_kind}
 
@@ -74,6 +78,21 @@ module _ (b : List ℕ) (l : Limit) (none : IsFaultless b l) where
           let before : code_up_to b (suc h - 1) ≡ code_up_to b h = ap (code_up_to b) (omega arith) in
           omega arith
 
+  -- the relocations of the headers up to one of them
+  few_relocs : (h : ℕ) → h < header_count b → relocs_up_to b h ≤ l.relocs
+  few_relocs zero u = omega arith
+  few_relocs (suc h) u = go (few_relocs h (omega arith)) (is_kept_relocs b (suc h)) refl
+    where
+      go : relocs_up_to b h ≤ l.relocs → (t : Bool) → is_kept_relocs b (suc h) ≡ t → relocs_up_to b (suc h) ≤ l.relocs
+      go less true e =
+          let parts = and_parts _ _ e in
+          not_above l.relocs (relocs_up_to b (suc h)) (λ v. none TooMany (suc h) (header_place b (suc h) + 20) (many_relocs (suc h) (omega arith, u, eqb-true _ _ parts.0) parts.1 v))
+      go less false e =
+          let more = relocs_more b (suc h) (omega arith) in
+          let here : relocs_at b (suc h) ≡ 0 = ap (λ (t : Bool). cond t ((header b (suc h)).size / 8) 0) e in
+          let before : relocs_up_to b (suc h - 1) ≡ relocs_up_to b h = ap (relocs_up_to b) (omega arith) in
+          omega arith
+
 -- the code of sections is that of their headers
 code_is : (b : List ℕ) (hs : List ℕ) → code_size (map (section_of b) (filter (is_kept b) hs)) ≡ sum_by (λ k. (header b k).size) (filter (is_code_header b) hs)
 code_is b [] = refl
@@ -93,12 +112,55 @@ code_is b (h ∷ hs) = go (code_is b hs) (is_kept b h) (is_code (section_of b h)
     go less true true e = first true e ∙ ap (λ (n : ℕ). (header b h).size + n) less ∙ sym (sum_by-cons (λ k. (header b k).size) h (filter (is_code_header b) hs))
     go less true false e = first false e ∙ zero-add _ ∙ less
 
--- Without relocations it is within the limit.
-pub read_within : (b : List ℕ) (l : Limit) (o : ObjectParts) → IsFaultless b l → StandsFor b o → o.relocs ≡ [] → IsTrue (is_within o l)
-read_within b l o none stands plain =
+-- A number that is among those that pass a test passes it.
+any_kept : (p : ℕ → Bool) (xs : List ℕ) (i : ℕ) → list_any (λ k. i == k) (filter p xs) ≡ true → p i ≡ true
+any_kept p [] i e = absurd (true≢false (sym e))
+any_kept p (x ∷ xs) i e = go (p x) refl (any_kept p xs i) e
+  where
+    here : (t : Bool) → (i == x) ≡ t → p x ≡ true → (list_any (λ k. i == k) (filter p xs) ≡ true → p i ≡ true) → (t || list_any (λ k. i == k) (filter p xs)) ≡ true → p i ≡ true
+    here true same u rest e = ap p (eqb-true i x same) ∙ u
+    here false same u rest e = rest e
+
+    go : (t : Bool) → p x ≡ t → (list_any (λ k. i == k) (filter p xs) ≡ true → p i ≡ true) → list_any (λ k. i == k) (cond t (x ∷ filter p xs) (filter p xs)) ≡ true → p i ≡ true
+    go true u rest e = here (i == x) refl u rest e
+    go false u rest e = rest e
+
+-- The relocations of the tables from one header on are no more than those that the limit is about.
+abbrev entries_in : List ℕ → ℕ → ℕ
+entries_in b h = (header b h).size / 8
+
+few_entries : (b : List ℕ) (first n : ℕ) → length (flat_map (entries_of b) (filter (is_reloc_table b) (from first n))) ≤ sum_by (entries_in b) (filter (is_kept_relocs b) (from first n))
+few_entries b first zero = omega arith
+few_entries b first (suc n) = go (is_reloc_table b first) refl (is_kept_relocs b first) refl (few_entries b (first + 1) n)
+  where
+    tables : List ℕ
+    tables = filter (is_reloc_table b) (from (first + 1) n)
+
+    kept : List ℕ
+    kept = filter (is_kept_relocs b) (from (first + 1) n)
+
+    one : length (entries_of b first) ≡ entries_in b first
+    one = length_made (λ j. (first, (header b first).offset + 8 * j)) 0 (entries_in b first)
+
+    is_kept_too : is_reloc_table b first ≡ true → is_kept_relocs b first ≡ true
+    is_kept_too e = let parts = and_parts _ _ e in and_from _ _ parts.0 (any_kept (is_kept b) (headers b) (header b first).info parts.1)
+
+    go : (t : Bool) → is_reloc_table b first ≡ t → (k : Bool) → is_kept_relocs b first ≡ k → length (flat_map (entries_of b) tables) ≤ sum_by (entries_in b) kept
+        → length (flat_map (entries_of b) (cond t (first ∷ tables) tables)) ≤ sum_by (entries_in b) (cond k (first ∷ kept) kept)
+    go true e true f less =
+        let a = ap length (flat_map-cons (entries_of b) first tables) ∙ length-append (entries_of b first) (flat_map (entries_of b) tables) in
+        let c = sum_by-cons (entries_in b) first kept in
+        let d = one in
+        omega arith
+    go true e false f less = absurd (true≢false (sym (is_kept_too e) ∙ f))
+    go false e true f less = let c = sum_by-cons (entries_in b) first kept in omega arith
+    go false e false f less = less
+
+-- It is within the limit.
+pub read_within : (b : List ℕ) (l : Limit) (o : ObjectParts) → IsFaultless b l → StandsFor b o → IsTrue (is_within o l)
+read_within b l o none stands =
     let sections : length o.sections ≤ l.sections = subst (λ ss. length ss ≤ l.sections) (sym stands.sections) (few_sections b l none) in
     let symbols : length o.symbols ≤ l.symbols = subst (λ ss. length ss ≤ l.symbols) (sym stands.symbols) (few_symbols b l none) in
-    let relocs : length o.relocs ≤ l.relocs = subst (λ rs. length rs ≤ l.relocs) (sym plain) (omega arith) in
     let code : code_size o.sections ≤ l.code =
     subst (λ n. n ≤ l.code) (sym (ap code_size stands.sections ∙ code_is b (headers b))) (all_code (header_count b) refl) in
     and_from _ _ (and_from _ _ (and_from _ _ (leb_from _ _ sections) (leb_from _ _ symbols)) (leb_from _ _ relocs)) (leb_from _ _ code)
@@ -106,3 +168,16 @@ read_within b l o none stands plain =
     all_code : (n : ℕ) → header_count b ≡ n → code_up_to b (header_count b - 1) ≤ l.code
     all_code zero e = let same : header_count b - 1 ≡ 0 = omega arith in subst (λ n. code_up_to b n ≤ l.code) (sym same) (omega arith)
     all_code (suc n) e = little_code b l none (header_count b - 1) (omega arith)
+
+    all_relocs : (n : ℕ) → header_count b ≡ n → relocs_up_to b (header_count b - 1) ≤ l.relocs
+    all_relocs zero e = let same : header_count b - 1 ≡ 0 = omega arith in subst (λ n. relocs_up_to b n ≤ l.relocs) (sym same) (omega arith)
+    all_relocs (suc n) e = few_relocs b l none (header_count b - 1) (omega arith)
+
+    relocs : length o.relocs ≤ l.relocs
+    relocs =
+        let count = length_permutation (map (reloc_of b) (reloc_entries b)) o.relocs stands.relocs in
+        let made = length-map (reloc_entries b) (reloc_of b) in
+        let some = fewer (λ (e : ℕ × ℕ). not (word_at b (e.1 + 4) % 256 == 0)) (flat_map (entries_of b) (filter (is_reloc_table b) (headers b))) in
+        let entries = few_entries b 1 (header_count b - 1) in
+        let all = all_relocs (header_count b) refl in
+        omega arith

@@ -17,7 +17,6 @@ use Rattle.guard_cli.specs.declared.endings.Ending.{Ending}
 use Rattle.guard_cli.specs.declared.endings.Ending.TheVariants.{Done, Refused, Usage, ReadFault, WriteFault, PrintFault, NoMemory, Stopped}
 use Rattle.guard_cli.specs.FirstForm.{at_start}
 use Rattle.guard_cli.specs.Inputs.{IsReadAs, AreReadAs, in_file, IsTooLong, IsFaulty, IsTurnedDown, deny_in}
-use Rattle.guard_cli.specs.Linkable.{IsLinkable}
 use Rattle.guard_cli.specs.Moments.{Files, Screen, Untouched, CountsStay}
 use Rattle.guard_cli.specs.Works.{Input, Contents, AreLoaded, inputs_of, input_named}
 use Rattle.guard_cli.specs.Steps.{contents_of, AddsLoaded, LoadFailsAs, LoadsFailAs}
@@ -172,17 +171,13 @@ one_file [] v e is = absurd (omega arith)
 one_file (x ∷ []) v e is = ap (λ (w : Vec ℕ Global). w.items ∷ []) (sym is)
 one_file (x ∷ y ∷ files) v e is = absurd (omega arith)
 
--- Objects of files that are read, without relocations, are within the limits.
-pub all_within : (files : List (List ℕ)) (objects : List ObjectParts) → AreReadAs ANY files objects → All IsLinkable objects → All (λ o. IsTrue (is_within o ANY)) objects
-all_within [] [] h plain = All-nil (λ o. IsTrue (is_within o ANY))
-all_within [] (o ∷ objects) h plain = absurd h
-all_within (f ∷ files) [] h plain = absurd h
-all_within (f ∷ files) (o ∷ objects) (h, hs) plain =
-    All-cons (λ (p : ObjectParts). IsTrue (is_within p ANY)) o objects (read_within f ANY o h.faultless h.stands (All-head IsLinkable o objects plain).relocs)
-    (all_within files objects hs (All-tail IsLinkable o objects plain))
-
-pub all_plain : (objects : List ObjectParts) → All IsLinkable objects → All (λ o. o.relocs ≡ []) objects
-all_plain objects all k d below = (all k d below).relocs
+-- Objects of files that are read are within the limits, and objects.
+pub all_within : (files : List (List ℕ)) (objects : List ObjectParts) → AreReadAs ANY files objects → All (λ o. IsTrue (is_within o ANY)) objects
+all_within [] [] h = All-nil (λ o. IsTrue (is_within o ANY))
+all_within [] (o ∷ objects) h = absurd h
+all_within (f ∷ files) [] h = absurd h
+all_within (f ∷ files) (o ∷ objects) (h, hs) =
+    All-cons (λ (p : ObjectParts). IsTrue (is_within p ANY)) o objects (read_within f ANY o h.faultless h.stands) (all_within files objects hs)
 
 -- the names of inputs by number
 pub named_at : (limit : ℕ) (names : List (List ℕ)) (k : ℕ) (d : List ℕ) → k < length names → input_named (inputs_of limit names) k ≡ get_or names k d

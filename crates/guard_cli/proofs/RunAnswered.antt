@@ -1,11 +1,10 @@
 -- A call that returns within its steps is not refused, and its run does not stop otherwise.
 use Rattle.std.proofs.Common.{◌≡◌, ◌≢◌, ◌<◌, inl, inr, ℕ, zero, suc, ◌+◌, ◌-◌, ◌&&◌, Bool, true, false, List, [], Some, None, Result, Ok, Err, refl, sym, ap, ap₂, ◌∙◌, subst, arith}
-use Rattle.std.specs.Prelude.{All}
 use Rattle.std.specs.Option.{option_to_list}
 use Rattle.std.proofs.lemmas.Bool.{cases_order}
 use Rattle.elf_model.specs.declared.refusals.Spot.{Spot}
+use Rattle.elf_model.specs.declared.refusals.TheConstants.Limit.{ANY}
 use Rattle.elf_model.specs.Objects.{ObjectParts}
-use Rattle.elf_model.proofs.Lists.{All_at}
 use Rattle.thumb_table.specs.declared.faults.FaultKind.{FaultKind}
 use Rattle.thumb_table.specs.declared.placements.Placement.{Placement}
 use Rattle.thumb_table.specs.Parts.{CodeBytes, Image}
@@ -21,13 +20,11 @@ use Rattle.skip_machine.specs.Runs.{RunEnds}
 use Rattle.skip_machine.proofs.Walks.{run_more}
 use Rattle.guard_words.specs.Words.{RunWords, Skips, listed, drawn}
 use Rattle.guard_cli.specs.declared.run.Finished.{Finished}
-use Rattle.guard_cli.specs.Linkable.{IsLinkable}
 use Rattle.guard_cli.specs.LinkWork.{AreOf}
 use Rattle.guard_cli.specs.MachineRuns.{Call, call_of, AreSkippedOf, IsScheduleOf, IsRunRefusal, HasRun, CanReturn, HasRunBy, CanReturnBy, run_line, run_work}
 use Rattle.guard_cli.specs.Steps.{IsFinishedBy, IsMadeAs, stopped_by}
-use Rattle.guard_cli.proofs.Accepted.{same_objects, image_is_accepted}
-use Rattle.thumb_table.proofs.PlainImages.{ArePlain}
-use Rattle.guard_cli.proofs.SameImages.{same_image}
+use Rattle.guard_cli.proofs.Accepted.{same_objects, are_objects, image_is_accepted}
+use Rattle.sim_images.proofs.OneImage.{one_image}
 
 some_same : (x y : ℕ) → Some x ≡ Some y → x ≡ y
 some_same x y e = cc
@@ -107,17 +104,13 @@ same_skips most (drawn seed) a b x y =
     let same : (j : ℕ) → is_in a j ≡ is_in b j = λ j. drawn_below seed most 2 a b x y (suc j) j (omega arith) in
     λ i j. same j i
 
--- objects without relocations
-plain_of : (objects : List ObjectParts) → All IsLinkable objects → ArePlain objects
-plain_of objects all = record { each = λ i o e. (All_at IsLinkable objects i o all e).relocs }
-
 -- Inputs whose call can be made are not refused.
 pub call_is_accepted : (c : Call) (files : List (List ℕ)) (spot : Spot) → CanReturn c files → IsRunRefusal c.at c.entry files spot → ⊥
 call_is_accepted c files spot (objects, image, are, linked, entry, entry_is, t, returns) (inl link) = image_is_accepted c.at files spot (objects, image, are, linked) link
 call_is_accepted c files spot (objects, image, are, linked, entry, entry_is, t, returns) (inr (at, (others, its_image, its, its_linked, none))) =
     let same = same_objects files others objects its are in
     let here : IsImage objects c.at its_image = subst (λ (os : List ObjectParts). IsImage os c.at its_image) same its_linked in
-    let one : its_image ≡ image = same_image objects c.at (plain_of objects are.form) its_image image here linked in
+    let one : its_image ≡ image = one_image objects c.at its_image image (are_objects ANY files objects are) here linked in
     no_some entry (sym none ∙ ap (λ (i : Image). entry_of i.entries c.entry) one ∙ entry_is)
   where
     no_some : (a : ℕ) → None ≡ Some a → ⊥
@@ -135,7 +128,7 @@ run_returns c d files outcome line alike skips (objects, image, are, linked, ent
     let same : r.call.objects ≡ objects = same_objects files r.call.objects objects r.call.inputs are in
     let here : IsImage objects c.at r.image =
     subst (λ (p : Placement). IsImage objects p r.image) at (subst (λ (os : List ObjectParts). IsImage os d.at r.image) same r.call.image_is) in
-    let one : r.image ≡ image = same_image objects c.at (plain_of objects are.form) r.image image here linked in
+    let one : r.image ≡ image = one_image objects c.at r.image image (are_objects ANY files objects are) here linked in
     let place : r.call.entry ≡ entry =
     some_same r.call.entry entry (sym r.call.entry_is ∙ ap (λ (n : List ℕ). entry_of r.image.entries n) named ∙ ap (λ (i : Image). entry_of i.entries c.entry) one ∙ entry_is) in
     let begun : r.begun ≡ start image c.at.stack entry c.arguments =

@@ -7,7 +7,6 @@ pub mod Moments
 pub mod Works
 pub mod Endings
 pub mod HardenWork
-pub mod Linkable
 pub mod LinkWork
 pub mod MachineRuns
 pub mod Steps

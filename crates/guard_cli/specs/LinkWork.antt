@@ -1,7 +1,6 @@
 -- The work of `link`.
-use Rattle.std.specs.Prelude.{◌≡◌, ◌⊎◌, ℕ, Bool, List, [], ◌∷◌, All, None, ⊤, if◌then◌else◌}
+use Rattle.std.specs.Prelude.{◌≡◌, ◌⊎◌, ℕ, Bool, List, [], ◌∷◌, None, ⊤, if◌then◌else◌}
 use Rattle.std.specs.List.{sum_by}
-use Rattle.elf_model.specs.declared.refusals.Refusal.TheVariants.{NotYet}
 use Rattle.elf_model.specs.declared.refusals.Spot.{Spot}
 use Rattle.elf_model.specs.declared.refusals.TheConstants.Limit.{ANY}
 use Rattle.elf_model.specs.declared.objects.Section.{Section}
@@ -11,9 +10,7 @@ use Rattle.thumb_table.specs.Parts.{Image}
 use Rattle.thumb_table.specs.Images.{IsImage, is_data, image_bytes}
 use Rattle.thumb_table.specs.LinkFaults.{IsLinkRefusal}
 use Rattle.guard_words.specs.Words.{LinkWords}
-use Rattle.guard_cli.specs.FirstForm.{at_start}
 use Rattle.guard_cli.specs.Inputs.{AreReadAs, IsReadRefusal}
-use Rattle.guard_cli.specs.Linkable.{IsLinkable}
 use Rattle.guard_cli.specs.Texts.{link_line}
 use Rattle.guard_cli.specs.Works.{Save, Work, inputs_of}
 
@@ -27,22 +24,13 @@ bytes_of_all sort objects = sum_by (λ (o : ObjectParts). bytes_of sort o.sectio
 abbrev pub link_report : List ObjectParts → List ℕ
 link_report objects = link_line (bytes_of_all is_code objects) (bytes_of_all is_data objects)
 
--- files that can be linked by their form, and their objects
-pub record AreOf (files : List (List ℕ)) (objects : List ObjectParts) : Type 0 where
-  pub read : AreReadAs ANY files objects
-  pub form : All IsLinkable objects
+-- files without fault, and their objects
+abbrev pub AreOf : List (List ℕ) → List ObjectParts → Type 0
+AreOf files objects = AreReadAs ANY files objects
 
--- files without fault, of which one cannot be linked by its form so far
-abbrev pub AreUnlinkable : List (List ℕ) → Type 0
-AreUnlinkable files = (objects : List ObjectParts) × AreReadAs ANY files objects × (All IsLinkable objects → ⊥)
-
--- When the inputs are refused by their form: as they are read, or else since one of them is not handled yet.
-abbrev pub IsFormRefusal : List (List ℕ) → Spot → Type 0
-IsFormRefusal files spot = IsReadRefusal ANY files spot ⊎ ((spot ≡ at_start NotYet) × AreUnlinkable files)
-
--- When the inputs are refused: by their form, or else as they are linked.
+-- When the inputs are refused: as they are read, or else as they are linked.
 abbrev pub IsLinkInputRefusal : Placement → List (List ℕ) → Spot → Type 0
-IsLinkInputRefusal at files spot = IsFormRefusal files spot ⊎ ((objects : List ObjectParts) × AreOf files objects × IsLinkRefusal objects at spot)
+IsLinkInputRefusal at files spot = IsReadRefusal ANY files spot ⊎ ((objects : List ObjectParts) × AreOf files objects × IsLinkRefusal objects at spot)
 
 -- files whose objects have an image
 abbrev pub HaveImage : Placement → List (List ℕ) → Type 0

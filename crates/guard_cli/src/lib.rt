@@ -8,7 +8,6 @@ mod first;
 mod form;
 mod harden;
 mod link;
-mod linkable;
 mod list;
 mod loading;
 mod outputs;

@@ -1,18 +1,17 @@
 //! Inputs: their bytes and their objects.
 
-ghost use Rattle.std.specs.Prelude.{◌≡◌, ◌≤◌, ℕ, List, [], length, map, All, IfOk, IfErr, OnOk, IsTrue, IsSome, MatchOption, string_bytes};
+ghost use Rattle.std.specs.Prelude.{◌≡◌, ◌≤◌, ℕ, List, length, map, All, IfOk, IfErr, OnOk, IsTrue, IsSome, MatchOption, string_bytes};
 ghost use Rattle.guard_io.specs.Outside.{IsLoaded};
 ghost use Rattle.elf_model.specs.Objects.{is_within};
 ghost use Rattle.guard_cli.specs.FirstForm.{at_start};
-ghost use Rattle.guard_cli.specs.Inputs.{AreReadAs, IsTooLong, IsFaulty, IsTurnedDown, in_file, deny_in};
-ghost use Rattle.guard_cli.specs.LinkWork.{AreOf, IsFormRefusal};
+ghost use Rattle.guard_cli.specs.Inputs.{AreReadAs, IsReadRefusal, IsTooLong, IsFaulty, IsTurnedDown, in_file, deny_in};
+ghost use Rattle.guard_cli.specs.LinkWork.{AreOf};
 ghost use Rattle.guard_cli.specs.Moments.{files_seen, screen_seen, IsHandedOn, CountsStay, Untouched};
 ghost use Rattle.guard_cli.specs.Steps.{contents_of, AddsLoaded, LoadFailsAs, LoadsFailAs};
 ghost use Rattle.guard_cli.specs.Works.{inputs_of};
 
 use crate::Ending;
 use crate::finishing::{give_up, tell};
-use crate::linkable::are_linkable;
 use crate::texts::read_fault_text;
 use elf_model::{Deny, Limit, Object, Refusal, Spot};
 use elf_read::read_object;
@@ -93,23 +92,18 @@ pub(crate) fn load_all<S: Shelf, K: Sink>(
     load_all(alloc, later, limit, loaded, shelf, out)
 }
 
-/// The objects of inputs that can be linked.
+/// The objects of inputs.
 pub(crate) fn objects_of(alloc: Global, files: &[Vec<u8>]) -> Result<Vec<Object>, Deny>
     requires { length files.now ≤ 16 }
     ensures taken { IfOk result (λ objects. AreOf (contents_of files.now) objects.items) }
     ensures few { IfOk result (λ objects. length objects.items ≤ 16) }
     ensures within { IfOk result (λ objects. All (λ o. IsTrue (is_within o Limit.ANY)) objects.items) }
-    ensures plain { IfOk result (λ objects. All (λ o. o.relocs ≡ []) objects.items) }
-    ensures refused { IfErr result (IsTurnedDown (IsFormRefusal (contents_of files.now))) }
+    ensures refused { IfErr result (IsTurnedDown (IsReadRefusal Limit.ANY (contents_of files.now))) }
 {
     if let Some(number) = first_too_long(files) {
         return Err(Deny::Refused(in_file(number, at_start(Refusal::TooLong))));
     }
-    let objects = read_all(alloc, files)?;
-    if !are_linkable(&objects) {
-        return Err(Deny::Refused(at_start(Refusal::NotYet)));
-    }
-    Ok(objects)
+    read_all(alloc, files)
 }
 
 /// The number of the first file that is longer than it may be.

@@ -55,7 +55,7 @@ use Rattle.sim_objects.proofs.LinkedPoints.{HowLinked, as_is, by_link, how_linke
 use Rattle.sim_objects.proofs.Distances.{own_leads, linked_away}
 
 -- a point lies in its section
-point_inside : (o : ObjectParts) (f : FlowParts) → IsFlow o f → (j t n : ℕ) → IsFlowPointAt f j t n → (s : Section) → slice_get o.sections j ≡ Some s → t < s.size
+pub point_inside : (o : ObjectParts) (f : FlowParts) → IsFlow o f → (j t n : ℕ) → IsFlowPointAt f j t n → (s : Section) → slice_get o.sections j ≡ Some s → t < s.size
 point_inside o f flow j t n y s there =
     let at = at_point o f flow y.point (contains_at f.points n y.point y.there) in
     let same : at.start.range.section ≡ s = same_Some at.start.range.section s (sym at.start.range.is_there ∙ (ap (λ (k : ℕ). slice_get o.sections k) y.section ∙ there)) in

@@ -30,8 +30,14 @@ pub mod Loading
 pub mod LinkedUnits
 pub mod Skipping
 pub mod Together
-pub mod Ordinals
-pub mod Mapping
 pub mod DataCells
 pub mod Beginning
+pub mod HavingMaps
+pub mod ImageStops
+pub mod Going
+pub mod Told
+pub mod Existing
+pub mod Ordinals
+pub mod Mapping
+pub mod Hardening
 pub mod Growth

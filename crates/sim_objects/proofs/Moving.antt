@@ -26,7 +26,7 @@ got_map f [] i y e = absurd (none-some y e)
 got_map f (x ∷ xs) zero y e = (x, refl, same_Some (f x) y e)
 got_map f (x ∷ xs) (suc i) y e = got_map f xs i y e
 
-zip_at : {A B : Type 0} (xs : List A) (ys : List B) (x : A) (y : B) → Contains (zip xs ys) (x, y) → (n : ℕ) × (slice_get xs n ≡ Some x) × (slice_get ys n ≡ Some y)
+pub zip_at : {A B : Type 0} (xs : List A) (ys : List B) (x : A) (y : B) → Contains (zip xs ys) (x, y) → (n : ℕ) × (slice_get xs n ≡ Some x) × (slice_get ys n ≡ Some y)
 zip_at [] ys x y c = absurd (contains_none (x, y) c)
 zip_at (a ∷ xs) [] x y c = absurd (contains_none (x, y) c)
 zip_at (a ∷ xs) (b ∷ ys) x y c =

@@ -15,6 +15,10 @@ pub mod Answering
 pub mod StandingUnits
 pub mod Skipping
 pub mod Together
-pub mod Mapping
 pub mod Beginning
+pub mod HavingMaps
+pub mod Going
+pub mod Existing
+pub mod Mapping
+pub mod Hardening
 pub mod Growth

@@ -4,9 +4,13 @@ ghost use Rattle.sim_objects.specs.Answering.{PairsAnswer};
 ghost use Rattle.sim_objects.specs.Apart.{PointsEndApart, PointsLieLow};
 ghost use Rattle.sim_objects.specs.Beginning.{CallsBegin, MemoriesMeet, NamesEnter};
 ghost use Rattle.sim_objects.specs.Even.{PlacesAreEven};
+ghost use Rattle.sim_objects.specs.Existing.{ListsHaveCharts};
 ghost use Rattle.sim_objects.specs.Exits.{NothingAtExit};
 ghost use Rattle.sim_objects.specs.Following.{UnitsFollow};
+ghost use Rattle.sim_objects.specs.Going.{PairsAreLinked, PointsGoOn};
 ghost use Rattle.sim_objects.specs.Growth.{PairsAreShort};
+ghost use Rattle.sim_objects.specs.Hardening.{ListsEndAlike};
+ghost use Rattle.sim_objects.specs.HavingMaps.{PairsHaveMaps};
 ghost use Rattle.sim_objects.specs.Linking.{ListsAreLinked};
 ghost use Rattle.sim_objects.specs.Living.{PointsLive, PointsSpare};
 ghost use Rattle.sim_objects.specs.Mapping.{ChartsFollowMaps};
@@ -17,6 +21,11 @@ ghost use Rattle.sim_objects.specs.Standing.{ChartsHavePoints, PointsStand};
 ghost use Rattle.sim_objects.specs.StandingUnits.{UnitsStand};
 ghost use Rattle.sim_objects.specs.Together.{UnitsAreLinked};
 ghost use Rattle.sim_objects.specs.Working.{UnitsWork};
+
+/// Lists of pairs with images have a chart.
+pub fn lists_have_charts()
+    ensures { ListsHaveCharts }
+{}
 
 /// No two points of a chart end at one address, so what stands for a return address is determined.
 pub fn points_end_apart()
@@ -134,7 +143,22 @@ pub fn calls_begin()
     ensures { CallsBegin }
 {}
 
-/// What a chart takes for addresses of code, the maps of the hardened objects take.
+/// A hardened object has its map.
+pub fn pairs_have_maps()
+    ensures { PairsHaveMaps }
+{}
+
+/// Control goes on in a chart as it does in the plain image.
+pub fn points_go_on()
+    ensures { PointsGoOn }
+{}
+
+/// The images of two lists of pairs are linked unit by unit.
+pub fn pairs_are_linked()
+    ensures { PairsAreLinked }
+{}
+
+/// The maps of the hardened objects take each entry and return address to where the chart does.
 pub fn charts_follow_maps()
     ensures { ChartsFollowMaps }
 {}
@@ -142,4 +166,9 @@ pub fn charts_follow_maps()
 /// No code section of a hardened object is longer than 32 times its plain one, for two copies.
 pub fn pairs_are_short()
     ensures { PairsAreShort }
+{}
+
+/// Calls of two lists of pairs end alike under their maps.
+pub fn lists_end_alike()
+    ensures { ListsEndAlike }
 {}

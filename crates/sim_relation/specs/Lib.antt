@@ -15,3 +15,4 @@ pub mod Taken
 pub mod Same
 pub mod Refused
 pub mod Copies
+pub mod Hardened

@@ -1,4 +1,4 @@
-use Rattle.guard_cli.proofs.SameImages.{code_in_room}
+use Rattle.guard_cli.proofs.ImageRoom.{code_in_room}
 use Rattle.guard_cli.proofs.link.decide.Goals as goal
 
 pub bytes-requires : goal.bytes-requires

@@ -7,7 +7,7 @@ use Rattle.guard_cli.specs.MachineRuns.{run_work}
 use Rattle.guard_cli.specs.Steps.{contents_of, IsMadeAs}
 use Rattle.guard_cli.proofs.Carried.{made_saying}
 use Rattle.guard_cli.proofs.RunAnswered.{IsRunMade, run_made}
-use Rattle.guard_cli.proofs.SameImages.{can_run}
+use Rattle.guard_cli.proofs.ImageRoom.{can_run}
 use Rattle.guard_cli.proofs.run.decide.Goals as goal
 
 pub run_command-requires-clause-can : goal.run_command-requires-clause-can
