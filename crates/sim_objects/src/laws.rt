@@ -9,6 +9,7 @@ ghost use Rattle.sim_objects.specs.Exits.{NothingAtExit};
 ghost use Rattle.sim_objects.specs.Following.{UnitsFollow};
 ghost use Rattle.sim_objects.specs.Going.{PairsAreLinked, PointsGoOn};
 ghost use Rattle.sim_objects.specs.Growth.{PairsAreShort};
+ghost use Rattle.sim_objects.specs.Harden.{ListsHarden};
 ghost use Rattle.sim_objects.specs.Hardening.{ListsEndAlike};
 ghost use Rattle.sim_objects.specs.HavingMaps.{PairsHaveMaps};
 ghost use Rattle.sim_objects.specs.Linking.{ListsAreLinked};
@@ -171,4 +172,10 @@ pub fn pairs_are_short()
 /// Calls of two lists of pairs end alike under their maps.
 pub fn lists_end_alike()
     ensures { ListsEndAlike }
+{}
+
+/// Two lists of pairs for two copies are hardened, as the theorem says it, where the hardened objects have
+/// their maps, and images wherever they can be linked.
+pub fn lists_harden()
+    ensures { ListsHarden }
 {}

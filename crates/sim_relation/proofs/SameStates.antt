@@ -1,5 +1,5 @@
 -- The same by two relations of addresses, of which each has what the other has.
-use Rattle.std.specs.Prelude.{◌≡◌, ◌↔◌, ◌<◌, ℕ, List, get_or, Option, Some, None}
+use Rattle.std.specs.Prelude.{ℕ, List, get_or, Option, Some, None}
 use Rattle.elf_model.specs.declared.objects.MapRow.{MapRow}
 use Rattle.mark_word.specs.Words.{bare}
 use Rattle.mark_word.specs.declared.cells.Piece.{Piece}

@@ -1,11 +1,11 @@
 -- The tests for sameness say what they are to.
-use Rattle.std.specs.Prelude.{◌≡◌, ◌↔◌, ◌<◌, ◌≤◌, ◌⊎◌, ℕ, ◌+◌, ◌%◌, ◌==◌, ◌&&◌, Bool, true, false, List, [], ◌∷◌, length, get_or, Option, Some, None, IsTrue, Contains, refl}
+use Rattle.std.specs.Prelude.{◌≡◌, ◌↔◌, ◌<◌, ℕ, ◌+◌, ◌%◌, ◌==◌, ◌&&◌, Bool, true, false, List, [], ◌∷◌, length, get_or, Option, Some, None, IsTrue, Contains, refl}
 use Rattle.std.specs.List.{list_any}
 use Rattle.std.proofs.Common.{arith, inl, inr, ap, sym, ◌∙◌, subst}
 use Rattle.std.proofs.lemmas.Bool.{and_parts, and_from, or_cases, or_left, or_right, eqb-true, eq-eqb, both_ways, cases_lt}
 use Rattle.std.proofs.lemmas.List.Folds.{list_any_at}
 use Rattle.elf_model.proofs.Elements.{contains_here, contains_later}
-use Rattle.mark_word.specs.Words.{Word, Cell, byte_of, bare, is_cell, is_piece_of}
+use Rattle.mark_word.specs.Words.{Cell, byte_of, bare, is_cell, is_piece_of}
 use Rattle.mark_word.specs.declared.cells.Piece.{Piece}
 use Rattle.mark_word.specs.declared.marks.Mark.{Mark}
 use Rattle.mark_word.specs.declared.marks.Mark.TheVariants.{Plain, Entry, Return, Low}

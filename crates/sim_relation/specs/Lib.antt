@@ -15,4 +15,3 @@ pub mod Taken
 pub mod Same
 pub mod Refused
 pub mod Copies
-pub mod Hardened

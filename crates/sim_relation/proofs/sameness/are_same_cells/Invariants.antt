@@ -1,4 +1,4 @@
-use Rattle.std.proofs.Common.{◌≡◌, ◌<◌, ℕ, get_or}
+use Rattle.std.proofs.Common.{◌<◌, ℕ, get_or}
 use Rattle.mark_word.specs.Words.{bare}
 use Rattle.sim_charts.specs.Words.{SameCell}
 use Rattle.sim_relation.specs.Same.{by_map}
