@@ -14,7 +14,8 @@ use Rattle.hardened_form.specs.Standing.{units}
 use Rattle.hardened_form.specs.Symbols.{size_of}
 use Rattle.hardened_form.specs.Carriers.{Carrier}
 use Rattle.sim_answers.specs.Units.{code_end, IsUnit, AreUnits}
-use Rattle.sim_answers.specs.Forms.{IsFormOf, IsFormAt}
+use Rattle.sim_images.specs.ImageLaws.{AreObjects}
+use Rattle.sim_answers.specs.Forms.{IsFormOf, IsFormAt, DoAnswer}
 use Rattle.sim_answers.proofs.FormsAnswer.{forms_answer}
 use Rattle.sim_relation.specs.Accepted.{boundaries}
 use Rattle.sim_relation.specs.Sequences.{Sequence}
@@ -104,15 +105,19 @@ pub same_length : (F c K : ℕ) (pairs : List (Pairing F c K)) → length (hards
 same_length F c K [] = refl
 same_length F c K (q ∷ rest) = ap (λ (n : ℕ). suc n) (same_length F c K rest)
 
-pub pairs_answer : PairsAnswer
+-- lists of objects alone need no images for that
+pub lists_answer : (F c K : ℕ) (pairs : List (Pairing F c K)) → AreObjects (plains pairs) → AreObjects (hards pairs) → DoAnswer (plains pairs) (hards pairs) (moved_in pairs)
 unfolding pair_at
-pairs_answer F c K pairs at plain hard images =
+lists_answer F c K pairs objects forms =
     forms_answer (plains pairs) (hards pairs) (moved_in pairs) (same_length F c K pairs) each
   where
     each : (i : ℕ) (o h : ObjectParts) → slice_get (plains pairs) i ≡ Some o → slice_get (hards pairs) i ≡ Some h → IsFormAt o h (moved_in pairs i)
     each i o h there here =
         let q = pair_at F c K pairs i o there in
         let same : q.0.hard ≡ h = same_Some q.0.hard h (sym (hard_at F c K pairs i q.0 q.1) ∙ here) in
-        let form = form_of F c K q.0 (ap is_object q.2 ∙ all_at is_object (plains pairs) i o images.objects there) (ap is_object same ∙ all_at is_object (hards pairs) i h images.forms here) in
+        let form = form_of F c K q.0 (ap is_object q.2 ∙ all_at is_object (plains pairs) i o objects there) (ap is_object same ∙ all_at is_object (hards pairs) i h forms here) in
         subst (λ (z : ObjectParts). IsFormAt z h (moved_in pairs i)) q.2 (subst (λ (z : ObjectParts). IsFormAt q.0.plain z (moved_in pairs i)) same
         (record { flow = q.0.pair.flow; places = q.0.pair.certificate.places; carriers = q.0.pair.certificate.carriers; form = form; moves = ap moved_by (sym q.1) }))
+
+pub pairs_answer : PairsAnswer
+pairs_answer F c K pairs at plain hard images = lists_answer F c K pairs images.objects images.forms

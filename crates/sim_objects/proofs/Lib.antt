@@ -41,3 +41,4 @@ pub mod Ordinals
 pub mod Mapping
 pub mod Hardening
 pub mod Growth
+pub mod Harden

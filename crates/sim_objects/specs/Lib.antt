@@ -22,3 +22,4 @@ pub mod Existing
 pub mod Mapping
 pub mod Hardening
 pub mod Growth
+pub mod Harden

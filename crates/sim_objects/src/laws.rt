@@ -9,6 +9,7 @@ ghost use Rattle.sim_objects.specs.Exits.{NothingAtExit};
 ghost use Rattle.sim_objects.specs.Following.{UnitsFollow};
 ghost use Rattle.sim_objects.specs.Going.{PairsAreLinked, PointsGoOn};
 ghost use Rattle.sim_objects.specs.Growth.{PairsAreShort};
+ghost use Rattle.sim_objects.specs.Harden.{ListsHarden};
 ghost use Rattle.sim_objects.specs.Hardening.{ListsEndAlike};
 ghost use Rattle.sim_objects.specs.HavingMaps.{PairsHaveMaps};
 ghost use Rattle.sim_objects.specs.Linking.{ListsAreLinked};
@@ -171,4 +172,10 @@ pub fn lists_end_alike()
 /// No code section of a hardened object is longer than 32 times its plain one, for two copies.
 pub fn pairs_are_short()
     ensures { PairsAreShort }
+{}
+
+/// Two lists of pairs for two copies are hardened, as the theorem says it, where the hardened objects have
+/// their maps, and images wherever they can be linked.
+pub fn lists_harden()
+    ensures { ListsHarden }
 {}
