@@ -105,10 +105,11 @@ pub same_length : (F c K : ℕ) (pairs : List (Pairing F c K)) → length (hards
 same_length F c K [] = refl
 same_length F c K (q ∷ rest) = ap (λ (n : ℕ). suc n) (same_length F c K rest)
 
--- so it is before they have images
-pub objects_answer : (F c K : ℕ) (pairs : List (Pairing F c K)) → AreObjects (plains pairs) → AreObjects (hards pairs) → DoAnswer (plains pairs) (hards pairs) (moved_in pairs)
+-- lists of objects alone need no images for that
+pub lists_answer : (F c K : ℕ) (pairs : List (Pairing F c K)) → AreObjects (plains pairs) → AreObjects (hards pairs) → DoAnswer (plains pairs) (hards pairs) (moved_in pairs)
 unfolding pair_at
-objects_answer F c K pairs objects forms = forms_answer (plains pairs) (hards pairs) (moved_in pairs) (same_length F c K pairs) each
+lists_answer F c K pairs objects forms =
+    forms_answer (plains pairs) (hards pairs) (moved_in pairs) (same_length F c K pairs) each
   where
     each : (i : ℕ) (o h : ObjectParts) → slice_get (plains pairs) i ≡ Some o → slice_get (hards pairs) i ≡ Some h → IsFormAt o h (moved_in pairs i)
     each i o h there here =
@@ -119,4 +120,4 @@ objects_answer F c K pairs objects forms = forms_answer (plains pairs) (hards pa
         (record { flow = q.0.pair.flow; places = q.0.pair.certificate.places; carriers = q.0.pair.certificate.carriers; form = form; moves = ap moved_by (sym q.1) }))
 
 pub pairs_answer : PairsAnswer
-pairs_answer F c K pairs at plain hard images = objects_answer F c K pairs images.objects images.forms
+pairs_answer F c K pairs at plain hard images = lists_answer F c K pairs images.objects images.forms

@@ -41,5 +41,5 @@ pub mod Ordinals
 pub mod Mapping
 pub mod Hardening
 pub mod Growth
-pub mod Promised
+pub mod Harden
 pub mod PairedLists

@@ -1,17 +1,24 @@
 -- Two lists of objects that are paired one by one are hardened: as a list of pairs of one factor.
 use Rattle.std.specs.Prelude.{◌≡◌, ◌≤◌, ℕ, zero, suc, ◌*◌, Bool, true, List, [], ◌∷◌, length, Some, slice_get, refl}
 use Rattle.std.proofs.Common.{arith, le_trans, ap, sym, ◌∙◌, subst}
+use Rattle.std.proofs.lemmas.List.{length-map}
 use Rattle.std.proofs.lemmas.Option.{none-some, same_Some}
+use Rattle.elf_model.specs.declared.objects.MapRow.{MapRow}
+use Rattle.elf_model.specs.Maps.{HasMap}
 use Rattle.elf_model.specs.Objects.{ObjectParts}
 use Rattle.elf_model.proofs.Lists.{get_map}
 use Rattle.flow_recover.specs.declared.flows.Point.{Point as FlowPoint}
 use Rattle.sim_images.specs.ImageLaws.{AreObjects}
 use Rattle.sim_relation.specs.Pairs.{Paired, everywhere}
-use Rattle.sim_relation.specs.Hardened.{Hardened}
+use Rattle.sim_relation.specs.Hardened.{AreMaps, Hardened}
 use Rattle.sim_objects.specs.Lists.{Pairing, plains, hards}
 use Rattle.sim_objects.specs.Hardening.{AllSkip}
-use Rattle.sim_objects.specs.PairedLists.{PairedListsHarden}
-use Rattle.sim_objects.proofs.Promised.{pairs_harden}
+use Rattle.sim_objects.specs.Mapping.{maps_of}
+use Rattle.sim_objects.specs.Harden.{HasImages}
+use Rattle.sim_objects.specs.PairedLists.{IsInput, PairedListsHarden}
+use Rattle.sim_objects.proofs.Moving.{got_map}
+use Rattle.sim_objects.proofs.HavingMaps.{pairs_have_maps}
+use Rattle.sim_objects.proofs.Harden.{lists_harden}
 
 -- what is paired is so for a greater factor
 raised : (o h : ObjectParts) (G F c K : ℕ) (may_skip : FlowPoint → Bool) → G ≤ F → F ≤ 8 * c → Paired o h G c K may_skip → Paired o h F c K may_skip
@@ -65,15 +72,23 @@ paired_up F high (o ∷ ins) (h ∷ outs) l each =
     first_too q pairs first all zero r x e = ap (λ (z : Pairing F 2 4). z.may_skip x) (sym (same_Some q r e)) ∙ first x
     first_too q pairs first all (suc i) r x e = all i r x e
 
+-- each hardened object has its map
+have_maps : (F : ℕ) (pairs : List (Pairing F 2 4)) → ((i : ℕ) (q : Pairing F 2 4) → slice_get pairs i ≡ Some q → IsInput q.plain) → AreMaps (hards pairs) (maps_of pairs)
+have_maps F pairs inputs = record { count = length-map pairs (λ (q : Pairing F 2 4). q.pair.form.rows) ∙ sym (length-map pairs (λ (q : Pairing F 2 4). q.hard)); has = has }
+  where
+    has : (i : ℕ) (h : ObjectParts) (rows : List MapRow) → slice_get (hards pairs) i ≡ Some h → slice_get (maps_of pairs) i ≡ Some rows → HasMap h rows
+    has i h rows here e =
+        let q = got_map (λ (z : Pairing F 2 4). z.hard) pairs i h here in
+        let is = inputs i q.0 q.1 in
+        let one : q.0.pair.form.rows ≡ rows = same_Some q.0.pair.form.rows rows (sym (get_map (λ (z : Pairing F 2 4). z.pair.form.rows) pairs i q.0 q.1) ∙ e) in
+        subst (λ (z : ObjectParts). HasMap z rows) q.2 (subst (λ (r : List MapRow). HasMap q.0.hard r) one (pairs_have_maps F 2 4 q.0 (omega arith) is.few is.small is.unnamed))
+
 pub paired_lists_harden : PairedListsHarden
-paired_lists_harden has ins outs F low high are =
+paired_lists_harden ins outs F low high are made =
     let z = paired_up F high ins outs are.count are.paired in
-    subst (λ (l : List ObjectParts). Hardened l outs F) z.1.plain
-    (subst (λ (l : List ObjectParts). Hardened (plains z.0) l F) z.1.hard
-    (pairs_harden has F z.0 low high
-    (record {
-      objects = subst AreObjects (sym z.1.plain) are.objects;
-      forms = subst AreObjects (sym z.1.hard) are.forms;
-      all = z.1.all;
-      each = λ i q e. are.inputs i q.plain (ap (λ (l : List ObjectParts). slice_get l i) (sym z.1.plain) ∙ get_map (λ (w : Pairing F 2 4). w.plain) z.0 i q e);
-    })))
+    let plain = z.1.plain in
+    let hard = z.1.hard in
+    let inputs = λ (i : ℕ) (q : Pairing F 2 4) (e : slice_get z.0 i ≡ Some q). are.inputs i q.plain (ap (λ (l : List ObjectParts). slice_get l i) (sym plain) ∙ get_map (λ (w : Pairing F 2 4). w.plain) z.0 i q e) in
+    subst (λ (l : List ObjectParts). Hardened l outs F) plain
+    (subst (λ (l : List ObjectParts). Hardened (plains z.0) l F) hard
+    (lists_harden F z.0 low high z.1.all (subst AreObjects (sym plain) are.objects) (subst AreObjects (sym hard) are.forms) (have_maps F z.0 inputs) (subst HasImages (sym hard) made)))

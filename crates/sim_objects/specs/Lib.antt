@@ -22,5 +22,5 @@ pub mod Existing
 pub mod Mapping
 pub mod Hardening
 pub mod Growth
-pub mod Promised
+pub mod Harden
 pub mod PairedLists

@@ -9,6 +9,7 @@ ghost use Rattle.sim_objects.specs.Exits.{NothingAtExit};
 ghost use Rattle.sim_objects.specs.Following.{UnitsFollow};
 ghost use Rattle.sim_objects.specs.Going.{PairsAreLinked, PointsGoOn};
 ghost use Rattle.sim_objects.specs.Growth.{PairsAreShort};
+ghost use Rattle.sim_objects.specs.Harden.{ListsHarden};
 ghost use Rattle.sim_objects.specs.Hardening.{ListsEndAlike};
 ghost use Rattle.sim_objects.specs.HavingMaps.{PairsHaveMaps};
 ghost use Rattle.sim_objects.specs.Linking.{ListsAreLinked};
@@ -17,7 +18,6 @@ ghost use Rattle.sim_objects.specs.Mapping.{ChartsFollowMaps};
 ghost use Rattle.sim_objects.specs.Meeting.{UnitsMeet};
 ghost use Rattle.sim_objects.specs.Moving.{EntriesAreCharted, LinksEnter, MovesAreCharted};
 ghost use Rattle.sim_objects.specs.PairedLists.{PairedListsHarden};
-ghost use Rattle.sim_objects.specs.Promised.{PairsHarden};
 ghost use Rattle.sim_objects.specs.Skipping.{AllMaySkip, UnitsKeepOut};
 ghost use Rattle.sim_objects.specs.Standing.{ChartsHavePoints, PointsStand};
 ghost use Rattle.sim_objects.specs.StandingUnits.{UnitsStand};
@@ -175,12 +175,14 @@ pub fn pairs_are_short()
     ensures { PairsAreShort }
 {}
 
-/// Hardened objects of lists of pairs are the objects, hardened, where lists that can be linked have images.
-pub fn pairs_harden()
-    ensures { PairsHarden }
+/// Two lists of pairs for two copies are hardened, as the theorem says it, where the hardened objects have
+/// their maps, and images wherever they can be linked.
+pub fn lists_harden()
+    ensures { ListsHarden }
 {}
 
-/// So two lists of objects that are paired one by one, each with a factor of at most F, are hardened.
+/// So two lists of objects that are paired one by one, each with a factor of at most F, are hardened, where the
+/// hardened ones have images wherever they can be linked.
 pub fn paired_lists_harden()
     ensures { PairedListsHarden }
 {}

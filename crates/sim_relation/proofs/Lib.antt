@@ -15,3 +15,5 @@ pub mod Living
 pub mod TakenRows
 pub mod Refused
 pub mod Copies
+pub mod SameTests
+pub mod SameStates

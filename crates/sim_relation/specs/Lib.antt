@@ -12,5 +12,6 @@ pub mod EmptyLoop
 pub mod AddressMaps
 pub mod Hardened
 pub mod Taken
+pub mod Same
 pub mod Refused
 pub mod Copies

@@ -48,6 +48,20 @@ impl AddressMap {
         let returns = all_taken(alloc, RowKind::Return, plain.parts(), hard.parts(), maps)?;
         Ok(AddressMap { entries, returns })
     }
+
+    /// The addresses of entries that it takes.
+    pub(crate) fn entries(&self) -> &[Taken]
+        ensures { result.now ≡ self.now.entries }
+    {
+        self.entries.as_slice()
+    }
+
+    /// Those that calls return to.
+    pub(crate) fn returns(&self) -> &[Taken]
+        ensures { result.now ≡ self.now.returns }
+    {
+        self.returns.as_slice()
+    }
 }
 
 fn is_kind(kind: RowKind, other: RowKind) -> bool

@@ -7,6 +7,7 @@ ghost use Rattle.sim_relation.specs.EmptyLoop.{EmptyLoopsWork};
 ghost use Rattle.sim_relation.specs.FirstRow.{CopyIsRefused, FirstRowIsPaired};
 ghost use Rattle.sim_relation.specs.Living.{AcceptedLive};
 ghost use Rattle.sim_relation.specs.Refused.{EachCopyIsLinked, ReadRegistersAreKept};
+ghost use Rattle.sim_relation.specs.Same.{SameByRows};
 ghost use Rattle.sim_relation.specs.Spared.{PairsSpare};
 
 /// MOVS r0, #5 and BX LR, each twice, are paired with the two.
@@ -58,4 +59,9 @@ pub fn each_copy_is_linked()
 /// What is done for more copies is done for fewer.
 pub fn fewer_copies_do()
     ensures { FewerCopiesDo }
+{}
+
+/// By the map of two images, what `same` tests is what the theorem on objects promises of two runs.
+pub fn same_by_rows()
+    ensures { SameByRows }
 {}

@@ -3,5 +3,7 @@
 
 mod address_maps;
 pub mod laws;
+mod sameness;
 
 pub use address_maps::{AddressMap, Taken};
+pub use sameness::same;
