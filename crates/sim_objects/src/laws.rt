@@ -1,5 +1,7 @@
 //! Laws of the charts of paired objects. The functions do nothing: their contracts are the laws.
 
+ghost use Rattle.std.specs.Prelude.{◌≤◌};
+ghost use Rattle.sim_relation.specs.Hardened.{Hardened};
 ghost use Rattle.sim_objects.specs.Answering.{PairsAnswer};
 ghost use Rattle.sim_objects.specs.Apart.{PointsEndApart, PointsLieLow};
 ghost use Rattle.sim_objects.specs.Beginning.{CallsBegin, MemoriesMeet, NamesEnter};
@@ -9,7 +11,7 @@ ghost use Rattle.sim_objects.specs.Exits.{NothingAtExit};
 ghost use Rattle.sim_objects.specs.Following.{UnitsFollow};
 ghost use Rattle.sim_objects.specs.Going.{PairsAreLinked, PointsGoOn};
 ghost use Rattle.sim_objects.specs.Growth.{PairsAreShort};
-ghost use Rattle.sim_objects.specs.Harden.{ListsHarden};
+ghost use Rattle.sim_objects.specs.Harden.{HasImages, ListsHarden};
 ghost use Rattle.sim_objects.specs.Hardening.{ListsEndAlike};
 ghost use Rattle.sim_objects.specs.HavingMaps.{PairsHaveMaps};
 ghost use Rattle.sim_objects.specs.Linking.{ListsAreLinked};
@@ -17,12 +19,14 @@ ghost use Rattle.sim_objects.specs.Living.{PointsLive, PointsSpare};
 ghost use Rattle.sim_objects.specs.Mapping.{ChartsFollowMaps};
 ghost use Rattle.sim_objects.specs.Meeting.{UnitsMeet};
 ghost use Rattle.sim_objects.specs.Moving.{EntriesAreCharted, LinksEnter, MovesAreCharted};
-ghost use Rattle.sim_objects.specs.PairedLists.{PairedListsHarden};
+ghost use Rattle.sim_objects.specs.PairedLists.{ArePairedLists, PairedListsHarden};
 ghost use Rattle.sim_objects.specs.Skipping.{AllMaySkip, UnitsKeepOut};
 ghost use Rattle.sim_objects.specs.Standing.{ChartsHavePoints, PointsStand};
 ghost use Rattle.sim_objects.specs.StandingUnits.{UnitsStand};
 ghost use Rattle.sim_objects.specs.Together.{UnitsAreLinked};
 ghost use Rattle.sim_objects.specs.Working.{UnitsWork};
+
+use elf_model::Object;
 
 /// Lists of pairs with images have a chart.
 pub fn lists_have_charts()
@@ -185,4 +189,13 @@ pub fn lists_harden()
 /// hardened ones have images wherever they can be linked.
 pub fn paired_lists_harden()
     ensures { PairedListsHarden }
+{}
+
+/// The theorem on two lists of objects: those that are paired with a list, one by one, are the list, hardened.
+pub fn paired_list_hardens(plain: &[Object], hard: &[Object], factor: u32)
+    requires low { 1 ≤ factor }
+    requires high { factor ≤ 16 }
+    requires paired { ArePairedLists plain.now hard.now factor }
+    requires images { HasImages hard.now }
+    ensures { Hardened plain.now hard.now factor }
 {}
