@@ -16,3 +16,4 @@ pub mod SymbolNames
 pub mod SoundSymbols
 pub mod WholeSymbols
 pub mod FewSymbols
+pub mod NewRelocFacts

@@ -33,12 +33,12 @@ module _ {X Y : Type 0} where
       subst (λ (p : X × Y). Contains (zip (v ∷ xs) (w ∷ ys)) p) (λ i. (same_Some v x a i, same_Some w y b i)) (contains_here (v, w) (zip xs ys))
   index_zip (v ∷ xs) (w ∷ ys) (suc k) x y a b = contains_later (v, w) (zip xs ys) (x, y) (index_zip xs ys k x y a b)
 
-  map_at : (g : X → Y) (xs : List X) (k : ℕ) (x : X) → slice_get xs k ≡ Some x → slice_get (map g xs) k ≡ Some (g x)
+  pub map_at : (g : X → Y) (xs : List X) (k : ℕ) (x : X) → slice_get xs k ≡ Some x → slice_get (map g xs) k ≡ Some (g x)
   map_at g [] k x a = absurd (none-some x a)
   map_at g (v ∷ xs) zero x a = ap (λ (z : X). Some (g z)) (same_Some v x a)
   map_at g (v ∷ xs) (suc k) x a = map_at g xs k x a
 
-  at_map : (g : X → Y) (xs : List X) (k : ℕ) (y : Y) → slice_get (map g xs) k ≡ Some y → (x : X) × ((slice_get xs k ≡ Some x) × (g x ≡ y))
+  pub at_map : (g : X → Y) (xs : List X) (k : ℕ) (y : Y) → slice_get (map g xs) k ≡ Some y → (x : X) × ((slice_get xs k ≡ Some x) × (g x ≡ y))
   at_map g [] k y a = absurd (none-some y a)
   at_map g (v ∷ xs) zero y a = (v, (refl, same_Some (g v) y a))
   at_map g (v ∷ xs) (suc k) y a = at_map g xs k y a
