@@ -1,0 +1,5 @@
+pub mod FreeFacts
+pub mod GuardFacts
+pub mod ShortFacts
+pub mod UnitFacts
+pub mod LackFacts
