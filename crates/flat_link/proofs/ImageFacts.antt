@@ -15,7 +15,7 @@ use Rattle.thumb_table.specs.Names.{Defined}
 use Rattle.thumb_table.specs.Links.{Link, AreWritten, covers, is_in_range}
 use Rattle.thumb_table.specs.LinkFaults.{NamesNothing, IsSecond, LinkFault}
 use Rattle.thumb_table.specs.LinkFaults.LinkFault.{misplaced, undefined, defined_twice, long_code, long_data, high_end, out_of_range}
-use Rattle.thumb_table.specs.Images.{IsImage, IsLinkedData}
+use Rattle.thumb_table.specs.Images.{CanLink, IsImage, IsLinkedData}
 use Rattle.flat_link.specs.declared.layout.Layout.{Layout}
 use Rattle.flat_link.specs.declared.ties.Tie.{Tie}
 use Rattle.flat_link.specs.Layout.{Stands, IsTooLong, parts_in}
@@ -26,7 +26,7 @@ use Rattle.flat_link.specs.Ties.{IsTied, AreTies, AreInRange}
 use Rattle.flat_link.proofs.SiteFacts.{link_is, link_there}
 use Rattle.flat_link.proofs.MarkFacts.{are_marked}
 
-as_many : (bs : List ℕ) → length (map bare bs) ≡ length bs
+pub as_many : (bs : List ℕ) → length (map bare bs) ≡ length bs
 as_many [] = refl
 as_many (b ∷ bs) = ap (λ (n : ℕ). suc n) (as_many bs)
 
@@ -65,6 +65,27 @@ data_linked objects at memory made = record {
   linked = λ k link datum. subst (λ (b : ℕ). AreWritten (all_placed objects at) memory.cells b k) (sym made.base) (made.cells.linked k (link_there objects at k link) datum);
 }
 
+-- What is made where nothing stands in its way is the image.
+pub image_with : (objects : List ObjectParts) (at : Placement) (is : Stands objects at) → CanLink objects at → (image : Image) → IsMade objects at image → IsImage objects at image
+image_with objects at is can image made = record {
+  placement = is.placement;
+  can = can;
+  parts = made.parts;
+  code_base = made.code.base;
+  code = record {
+    size = made.code.bytes.size;
+    small = made.code.small;
+    others = λ x free. made.code.bytes.others x (λ k c s. free k (link_is objects at k c));
+    linked = λ k link code. made.code.bytes.linked k (link_there objects at k link) code;
+  };
+  marks = are_marked objects at is (ties_all objects at can.right) image.code.marks made.code.marks;
+  stops = made.code.stops;
+  stops_rise = made.code.rise;
+  memory = data_linked objects at image.memory made.memory;
+  room = made.room;
+  entries = made.entries;
+}
+
 module _ (objects : List ObjectParts) (at : Placement) (is : Stands objects at) (right : IsFirstMisplaced objects None) (named : (i k : ℕ) (r : Reloc) → NamesNothing objects i k r → ⊥) (once : (d : Defined) → IsSecond objects d → ⊥)
     (range : (k : Link) → Contains (all_links objects at) k → is_in_range (all_placed objects at) k ≡ true) where
   no_fault : (spot : Spot) → LinkFault objects at spot → ⊥
@@ -77,21 +98,4 @@ module _ (objects : List ObjectParts) (at : Placement) (is : Stands objects at) 
   no_fault _ (out_of_range k link far) = true≢false (sym (range k (link_there objects at k link)) ∙ far)
 
   pub image_is : (image : Image) → IsMade objects at image → IsImage objects at image
-  image_is image made = record {
-    placement = is.placement;
-    can = record { right = right; sound = no_fault };
-    parts = made.parts;
-    code_base = made.code.base;
-    code = record {
-      size = made.code.bytes.size;
-      small = made.code.small;
-      others = λ x free. made.code.bytes.others x (λ k c s. free k (link_is objects at k c));
-      linked = λ k link code. made.code.bytes.linked k (link_there objects at k link) code;
-    };
-    marks = are_marked objects at is (ties_all objects at right) image.code.marks made.code.marks;
-    stops = made.code.stops;
-    stops_rise = made.code.rise;
-    memory = data_linked objects at image.memory made.memory;
-    room = made.room;
-    entries = made.entries;
-  }
+  image_is image made = image_with objects at is (record { right = right; sound = no_fault }) image made
