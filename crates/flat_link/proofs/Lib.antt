@@ -22,3 +22,8 @@ pub mod LayoutFacts
 pub mod SecondFacts
 pub mod RefusalFacts
 pub mod ImageFacts
+pub mod SmallBytes
+pub mod Rising
+pub mod LinkCodes
+pub mod Laying
+pub mod Existing

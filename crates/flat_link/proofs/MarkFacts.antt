@@ -7,20 +7,20 @@ use Rattle.std.proofs.lemmas.Bool.{and_parts, and_from, true≢false}
 use Rattle.std.proofs.lemmas.Option.{none-some, same_Some}
 use Rattle.std.proofs.lemmas.List.Elements.{Contains-append_right}
 use Rattle.elf_model.specs.declared.objects.RelocKind.{RelocKind}
-use Rattle.elf_model.specs.Objects.{is_code, place_width}
+use Rattle.elf_model.specs.Objects.{ObjectParts, is_code, place_width}
 use Rattle.elf_model.proofs.Elements.{contains_cases, contains_here, contains_later, contains_none}
 use Rattle.mark_word.specs.declared.marks.Mark.{Mark}
 use Rattle.mark_word.specs.declared.marks.Mark.TheVariants.{Plain, Entry, Return, Low}
 use Rattle.mark_word.specs.Words.{is_marked}
+use Rattle.thumb_table.specs.declared.placements.Placement.{Placement}
 use Rattle.thumb_table.specs.declared.parts.PlaceMark.{PlaceMark}
-use Rattle.thumb_table.specs.Layouts.{Placed}
+use Rattle.thumb_table.specs.Layouts.{Placed, all_placed}
 use Rattle.thumb_table.specs.Links.{Link, place_of, mark_of}
 use Rattle.thumb_table.specs.Images.{IsMarked}
-use Rattle.flat_link.specs.declared.layout.Layout.{Layout}
-use Rattle.flat_link.specs.Layout.{IsLayout, parts_in}
+use Rattle.flat_link.specs.Layout.{Stands}
 use Rattle.flat_link.specs.Marks.{mark_at, marks_among}
 use Rattle.flat_link.specs.Sites.{all_links}
-use Rattle.flat_link.specs.Ties.{IsTie}
+use Rattle.flat_link.specs.Ties.{IsTied}
 use Rattle.flat_link.proofs.ListFacts.{InOrder, none, before}
 use Rattle.flat_link.proofs.SiteFacts.{LinkBefore, links_order, link_is, link_there}
 use Rattle.flat_link.proofs.TieFacts.{code_behind}
@@ -88,18 +88,18 @@ wide k = go (_)
     go true = omega arith
     go false = omega arith
 
-among_rise : (l : Layout) → IsLayout l → (ks : List Link) → ((k : Link) → Contains ks k → IsTie l k) → InOrder LinkBefore ks → InOrder MarkBefore (marks_among (parts_in l) ks)
-among_rise l is _ ties none = none
-among_rise l is _ ties (before k ks h more) = go (mark_at (parts_in l) k) refl (among_rise l is ks (λ j c. ties j (contains_later k ks j c)) more)
+among_rise : (objects : List ObjectParts) (at : Placement) → Stands objects at → (ks : List Link) → ((k : Link) → Contains ks k → IsTied objects at k) → InOrder LinkBefore ks → InOrder MarkBefore (marks_among (all_placed objects at) ks)
+among_rise objects at is _ ties none = none
+among_rise objects at is _ ties (before k ks h more) = go (mark_at (all_placed objects at) k) refl (among_rise objects at is ks (λ j c. ties j (contains_later k ks j c)) more)
   where
-    go : (o : Option PlaceMark) → mark_at (parts_in l) k ≡ o → InOrder MarkBefore (marks_among (parts_in l) ks) → InOrder MarkBefore (option_to_list o ++ marks_among (parts_in l) ks)
+    go : (o : Option PlaceMark) → mark_at (all_placed objects at) k ≡ o → InOrder MarkBefore (marks_among (all_placed objects at) ks) → InOrder MarkBefore (option_to_list o ++ marks_among (all_placed objects at) ks)
     go None e rest = rest
     go (Some m) e rest =
-        before m (marks_among (parts_in l) ks) (λ n c.
-        let q = among_is (parts_in l) ks n c in
-        let a = marks_is (parts_in l) k m e in
+        before m (marks_among (all_placed objects at) ks) (λ n c.
+        let q = among_is (all_placed objects at) ks n c in
+        let a = marks_is (all_placed objects at) k m e in
         let b = q.2 in
-        let apart = code_behind l is k q.0 (ties k (contains_here k ks)) (ties q.0 (contains_later k ks q.0 q.1)) (h q.0 q.1) a.code b.code in
+        let apart = code_behind objects at is k q.0 (ties k (contains_here k ks)) (ties q.0 (contains_later k ks q.0 q.1)) (h q.0 q.1) a.code b.code in
         let x = a.place in
         let y = b.place in
         let w = wide k.reloc.kind in
@@ -114,15 +114,15 @@ rising _ (before m (n ∷ ms) h more) (suc k) less =
     let e : suc k + 1 ≡ suc (k + 1) = omega arith in
     subst (λ (i : ℕ). slice_index ats (suc k) < slice_index ats i) (sym e) (rising (n ∷ ms) more k (omega arith))
 
-pub are_marked : (l : Layout) → IsLayout l → ((k : Link) → Contains (all_links l.objects.now l.at) k → IsTie l k) → (marks : List PlaceMark) → marks ≡ marks_among (parts_in l) (all_links l.objects.now l.at) → IsMarked l.objects.now l.at marks
-are_marked l is ties marks e =
-    let all = all_links l.objects.now l.at in
-    subst (IsMarked l.objects.now l.at) (sym e) (record {
+pub are_marked : (objects : List ObjectParts) (at : Placement) → Stands objects at → ((k : Link) → Contains (all_links objects at) k → IsTied objects at k) → (marks : List PlaceMark) → marks ≡ marks_among (all_placed objects at) (all_links objects at) → IsMarked objects at marks
+are_marked objects at is ties marks e =
+    let all = all_links objects at in
+    subst (IsMarked objects at) (sym e) (record {
       exact = λ m. (
-        λ c. let q = among_is (parts_in l) all m c in
+        λ c. let q = among_is (all_placed objects at) all m c in
             let h = q.2 in
-            record { link = q.0; is_link = link_is l.objects.now l.at q.0 q.1; code = h.code; place = h.place; mark = h.mark; marked = h.marked },
-        λ h. among_has (parts_in l) all h.link m (link_there l.objects.now l.at h.link h.is_link) (marks_has (parts_in l) h.link m (record { code = h.code; place = h.place; mark = h.mark; marked = h.marked })),
+            record { link = q.0; is_link = link_is objects at q.0 q.1; code = h.code; place = h.place; mark = h.mark; marked = h.marked },
+        λ h. among_has (all_placed objects at) all h.link m (link_there objects at h.link h.is_link) (marks_has (all_placed objects at) h.link m (record { code = h.code; place = h.place; mark = h.mark; marked = h.marked })),
       );
-      rise = rising (marks_among (parts_in l) all) (among_rise l is all ties (links_order l.objects.now l.at));
+      rise = rising (marks_among (all_placed objects at) all) (among_rise objects at is all ties (links_order objects at));
     })

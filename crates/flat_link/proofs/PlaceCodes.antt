@@ -6,7 +6,7 @@ use Rattle.std.proofs.lemmas.Option.{same_Some}
 use Rattle.elf_model.specs.declared.objects.RelocKind.{RelocKind}
 use Rattle.elf_model.specs.declared.objects.RelocKind.TheVariants.{Abs32, Target1, ThmCall, ThmJump24, MovwAbs, MovtAbs, ThmJump19, ThmJump11, ThmJump8, Other}
 use Rattle.elf_model.specs.Fields.{half_at}
-use Rattle.elf_model.specs.Objects.{even}
+use Rattle.elf_model.specs.Objects.{ObjectParts, even}
 use Rattle.elf_model.specs.Ranges.{is_long}
 use Rattle.thumb_instr.specs.declared.conditions.Cond.{Cond}
 use Rattle.thumb_instr.specs.declared.conditions.Cond.TheVariants.{Al}
@@ -30,11 +30,11 @@ use Rattle.thumb_encode.proofs.FullTold.{code_told}
 use Rattle.reloc_places.specs.Starts.{decoded_at}
 use Rattle.reloc_places.specs.Relocations.{may_fail, is_word, is_jump, is_bl, is_b, is_mov, fits_kind}
 use Rattle.reloc_places.proofs.DecodedPlaces.{long_alone}
+use Rattle.thumb_table.specs.declared.placements.Placement.{Placement}
 use Rattle.thumb_table.specs.Layouts.{Placed}
 use Rattle.thumb_table.specs.Names.{is_function}
 use Rattle.thumb_table.specs.Links.{Link, reach, sum_of, full, offset_of, value_of, value_for, is_straight, can_branch, is_in_range, is_reached, is_thumb_address}
-use Rattle.flat_link.specs.declared.layout.Layout.{Layout}
-use Rattle.flat_link.specs.Ties.{IsTie}
+use Rattle.flat_link.specs.Ties.{IsTied}
 use Rattle.flat_link.specs.Patches.{IsNumberOf, width_if, HasPlaceCode}
 use Rattle.flat_link.proofs.NumberCodes.{IsNear, is_near, near_bits, HasHalf, always_has, sometimes_has}
 use Rattle.flat_link.proofs.WrittenFacts.{has_instr}
@@ -189,10 +189,10 @@ module _ (parts : List Placed) (k : Link) where
       fits_by (Other n) offset full low high near = (tt, high)
 
 -- So the instruction in its place has a code of its width.
-module _ (l : Layout) (k : Link) (tie : IsTie l k) (none : is_word k.reloc.kind ≡ false) (parts : List Placed) (range : is_in_range parts k ≡ true) where
+module _ (objects : List ObjectParts) (at : Placement) (k : Link) (tie : IsTied objects at k) (none : is_word k.reloc.kind ≡ false) (parts : List Placed) (range : is_in_range parts k ≡ true) where
   pub number_may : (i : Instr) → decoded_at k.part.section.bytes k.reloc.offset 0 ≡ Ok i → CanCode i (value_of parts k) (is_long (half_at k.part.section.bytes k.reloc.offset))
   number_may i is =
-      let h = has_instr l k tie none in
+      let h = has_instr objects at k tie none in
       let same : h.instr ≡ i = same_ok h.instr i (decoded_at k.part.section.bytes k.reloc.offset 0) h.is is in
       let fits : fits_kind k.reloc.kind (is_long (half_at k.part.section.bytes k.reloc.offset)) i ≡ true = subst (λ (j : Instr). fits_kind k.reloc.kind (is_long (half_at k.part.section.bytes k.reloc.offset)) j ≡ true) same h.fits in
       let v = value_fits parts k range in

@@ -23,10 +23,10 @@ use Rattle.thumb_table.specs.Layouts.{Placed, code_parts, data_parts, all_placed
 use Rattle.thumb_table.specs.Names.{Defined, all_symbols, is_defined, globals, weaks, resolved, meant}
 use Rattle.thumb_table.specs.Links.{Link, IsLink, place_of, addend_of}
 use Rattle.flat_link.specs.declared.layout.Layout.{Layout}
-use Rattle.flat_link.specs.Layout.{IsLayout}
+use Rattle.flat_link.specs.Layout.{IsLayout, Stands}
 use Rattle.flat_link.specs.declared.ties.Tie.{Tie}
 use Rattle.flat_link.specs.Sites.{link_of}
-use Rattle.flat_link.specs.Ties.{IsTie, AreTies}
+use Rattle.flat_link.specs.Ties.{IsTied, IsTie, AreTies}
 use Rattle.flat_link.proofs.ListFacts.{InOrder, order_cases, has_at}
 use Rattle.flat_link.proofs.RawBytes.{begins, ends_inside}
 use Rattle.flat_link.proofs.PartFacts.{part_is, reloc_sound, code_good, data_good}
@@ -65,12 +65,16 @@ own_bytes objects at k is = ap bytes_in (own_section objects at k is)
 pub place_inside : (s : Section) (r : Reloc) → is_placed r (Some s) ≡ true → r.offset + place_width r.kind ≤ s.size
 place_inside s r h = leb-true (r.offset + place_width r.kind) s.size (and_parts (not (s.kind == nobits)) (nat_le (r.offset + place_width r.kind) s.size) h).1
 
-module _ (l : Layout) (is : IsLayout l) (k : Link) (link : IsLink l.objects.now l.at k) where
-  pub link_sound : is_object k.object ≡ true
-  link_sound = all_at is_object l.objects.now k.file k.object is.sound link.object
+-- the objects of a layout stand there
+pub standing : (l : Layout) → IsLayout l → Stands l.objects.now l.at
+standing l is = record { placement = is.placement; sound = is.sound; fits = is.fits }
 
-  pub link_within : IsTrue (is_within k.object ANY)
-  link_within = All_at (λ (o : ObjectParts). IsTrue (is_within o ANY)) l.objects.now k.file k.object is.within link.object
+pub link_within : (l : Layout) → IsLayout l → (k : Link) → IsLink l.objects.now l.at k → IsTrue (is_within k.object ANY)
+link_within l is k link = All_at (λ (o : ObjectParts). IsTrue (is_within o ANY)) l.objects.now k.file k.object is.within link.object
+
+module _ (objects : List ObjectParts) (at : Placement) (is : Stands objects at) (k : Link) (link : IsLink objects at k) where
+  pub link_sound : is_object k.object ≡ true
+  link_sound = all_at is_object objects k.file k.object is.sound link.object
 
   pub link_reloc : is_reloc k.object.sections k.object.symbols k.reloc ≡ true
   link_reloc = reloc_sound k.object k.number k.reloc link_sound link.reloc
@@ -79,50 +83,50 @@ module _ (l : Layout) (is : IsLayout l) (k : Link) (link : IsLink l.objects.now 
   link_inside =
       let a = and_parts _ _ link_reloc in
       let b = and_parts (is_placed k.reloc (slice_get k.object.sections k.reloc.section)) (is_kind k.reloc.kind) a.0 in
-      place_inside k.part.section k.reloc (subst (λ (s : Option Section). is_placed k.reloc s ≡ true) (own_section l.objects.now l.at k link) b.0)
+      place_inside k.part.section k.reloc (subst (λ (s : Option Section). is_placed k.reloc s ≡ true) (own_section objects at k link) b.0)
 
   pub link_low : place_of k + place_width k.reloc.kind ≤ 0x7FFFF000
   link_low =
-      let low = part_low l.objects.now l.at is.sound is.fits k.file k.reloc.section k.part link.part in
+      let low = part_low objects at is.sound is.fits k.file k.reloc.section k.part link.part in
       let inside = link_inside in
       omega arith
 
-  pub link_meant : Contains (all_symbols 0 l.objects.now) k.meant
-  link_meant = meant_known l.objects.now k.file k.reloc.symbol k.object k.symbol k.meant link.object link.symbol link.meant
+  pub link_meant : Contains (all_symbols 0 objects) k.meant
+  link_meant = meant_known objects k.file k.reloc.symbol k.object k.symbol k.meant link.object link.symbol link.meant
 
   pub link_addend : addend (bytes_of k.object k.reloc.section) k.reloc ≡ addend_of k
-  link_addend = ap (λ (b : List ℕ). addend b k.reloc) (own_bytes l.objects.now l.at k link)
+  link_addend = ap (λ (b : List ℕ). addend b k.reloc) (own_bytes objects at k link)
 
   -- where a place in code lies
-  pub lies_in_code : is_code k.part.section ≡ true → Contains (code_parts l.objects.now l.at) k.part
+  pub lies_in_code : is_code k.part.section ≡ true → Contains (code_parts objects at) k.part
   lies_in_code code =
-      let h = part_is l.objects.now l.at k.file k.reloc.section k.part link.part in
+      let h = part_is objects at k.file k.reloc.section k.part link.part in
       elim (h.sort) [
         | inl c ↦ c.0
         | inr d ↦ absurd (no_data k.part.section code d.1)
       ]
 
-  pub lies_in_data : is_data k.part.section ≡ true → Contains (data_parts l.objects.now l.at) k.part
+  pub lies_in_data : is_data k.part.section ≡ true → Contains (data_parts objects at) k.part
   lies_in_data datum =
-      let h = part_is l.objects.now l.at k.file k.reloc.section k.part link.part in
+      let h = part_is objects at k.file k.reloc.section k.part link.part in
       elim (h.sort) [
         | inl c ↦ absurd (no_data k.part.section c.1 datum)
         | inr d ↦ d.0
       ]
 
-  pub code_place : is_code k.part.section ≡ true → (l.at.base ≤ k.part.start) × (place_of k + place_width k.reloc.kind ≤ l.at.base + length (code_bytes_of l.objects.now l.at))
+  pub code_place : is_code k.part.section ≡ true → (at.base ≤ k.part.start) × (place_of k + place_width k.reloc.kind ≤ at.base + length (code_bytes_of objects at))
   code_place code =
       let c = lies_in_code code in
-      let a = begins (λ s. max 4 s.align) l.at.base _ (code_good l.objects.now is.sound) k.part c in
-      let b = ends_inside (λ s. max 4 s.align) l.at.base _ (code_good l.objects.now is.sound) k.part c in
+      let a = begins (λ s. max 4 s.align) at.base _ (code_good objects is.sound) k.part c in
+      let b = ends_inside (λ s. max 4 s.align) at.base _ (code_good objects is.sound) k.part c in
       let inside = link_inside in
       (a, omega arith)
 
-  pub data_place : is_data k.part.section ≡ true → (l.at.base + l.at.room ≤ k.part.start) × (place_of k + place_width k.reloc.kind ≤ l.at.base + l.at.room + length (data_bytes_of l.objects.now l.at))
+  pub data_place : is_data k.part.section ≡ true → (at.base + at.room ≤ k.part.start) × (place_of k + place_width k.reloc.kind ≤ at.base + at.room + length (data_bytes_of objects at))
   data_place datum =
       let c = lies_in_data datum in
-      let a = begins (λ s. s.align) (l.at.base + l.at.room) _ (data_good l.objects.now is.sound) k.part c in
-      let b = ends_inside (λ s. s.align) (l.at.base + l.at.room) _ (data_good l.objects.now is.sound) k.part c in
+      let a = begins (λ s. s.align) (at.base + at.room) _ (data_good objects is.sound) k.part c in
+      let b = ends_inside (λ s. s.align) (at.base + at.room) _ (data_good objects is.sound) k.part c in
       let inside = link_inside in
       (a, omega arith)
 
@@ -131,18 +135,18 @@ pub tie_at : (l : Layout) (ties : List Tie) → AreTies l ties → (i : ℕ) (t 
 tie_at l ties are i t less e = are.each (link_of t) (map_contains link_of ties t (has_at ties i t less e))
 
 -- a relocation in data is of a word
-pub data_word : (l : Layout) (k : Link) → IsTie l k → is_data k.part.section ≡ true → is_word k.reloc.kind ≡ true
-data_word l k tie datum = go tie.right.place
+pub data_word : (objects : List ObjectParts) (at : Placement) (k : Link) → IsTied objects at k → is_data k.part.section ≡ true → is_word k.reloc.kind ≡ true
+data_word objects at k tie datum = go tie.right.place
   where
     go : IsPlace k.object k.reloc → is_word k.reloc.kind ≡ true
     go (in_data s at is word) = word
     go (in_code word is) = word
     go (on_instr end i start given fits) =
-        let same : start.range.section ≡ k.part.section = same_Some start.range.section k.part.section (sym start.range.is_there ∙ own_section l.objects.now l.at k tie.link) in
+        let same : start.range.section ≡ k.part.section = same_Some start.range.section k.part.section (sym start.range.is_there ∙ own_section objects at k tie.link) in
         absurd (no_data k.part.section (subst (λ (s : Section). is_code s ≡ true) same start.range.in_code) datum)
 
 -- Of two links of one sort of section, the later one's place begins behind the earlier one's.
-module _ (l : Layout) (is : IsLayout l) (j k : Link) (a : IsTie l j) (b : IsTie l k) (order : LinkBefore j k) where
+module _ (objects : List ObjectParts) (at : Placement) (is : Stands objects at) (j k : Link) (a : IsTied objects at j) (b : IsTied objects at k) (order : LinkBefore j k) where
   -- by the order of their parts
   by_parts : (ps : List Placed) → InOrder StandsBehind ps → Contains ps j.part → Contains ps k.part → place_of j + place_width j.reloc.kind ≤ place_of k
   by_parts ps ordered c d =
@@ -152,13 +156,13 @@ module _ (l : Layout) (is : IsLayout l) (j k : Link) (a : IsTie l j) (b : IsTie 
       ]
     where
       inside : j.reloc.offset + place_width j.reloc.kind ≤ j.part.section.size
-      inside = link_inside l is j a.link
+      inside = link_inside objects at is j a.link
 
       first : (j.part.object ≡ j.file) × (j.part.index ≡ j.reloc.section)
-      first = let h = part_is l.objects.now l.at j.file j.reloc.section j.part a.link.part in (h.file, h.index)
+      first = let h = part_is objects at j.file j.reloc.section j.part a.link.part in (h.file, h.index)
 
       second : (k.part.object ≡ k.file) × (k.part.index ≡ k.reloc.section)
-      second = let h = part_is l.objects.now l.at k.file k.reloc.section k.part b.link.part in (h.file, h.index)
+      second = let h = part_is objects at k.file k.reloc.section k.part b.link.part in (h.file, h.index)
 
       apart : (j.file < k.file) ⊎ ((j.file ≡ k.file) × (j.reloc.section < k.reloc.section)) → place_of j + place_width j.reloc.kind ≤ place_of k
       apart far =
@@ -184,21 +188,21 @@ module _ (l : Layout) (is : IsLayout l) (j k : Link) (a : IsTie l j) (b : IsTie 
 
       one_file : j.file ≡ k.file → j.number < k.number → place_of j + place_width j.reloc.kind ≤ place_of k
       one_file file less =
-          let same : j.object ≡ k.object = same_Some j.object k.object (sym a.link.object ∙ ap (slice_get l.objects.now) file ∙ b.link.object) in
+          let same : j.object ≡ k.object = same_Some j.object k.object (sym a.link.object ∙ ap (slice_get objects) file ∙ b.link.object) in
           let there : slice_get k.object.relocs j.number ≡ Some j.reloc = ap (λ (o : ObjectParts). slice_get o.relocs j.number) (sym same) ∙ a.link.reloc in
-          let below = rise_at k.object.relocs (relocs_rise k.object (link_sound l is k b.link)) j.number k.number j.reloc k.reloc less there b.link.reloc in
+          let below = rise_at k.object.relocs (relocs_rise k.object (link_sound objects at is k b.link)) j.number k.number j.reloc k.reloc less there b.link.reloc in
           elim (or_cases (nat_lt j.reloc.section k.reloc.section) ((j.reloc.section == k.reloc.section) && nat_lt j.reloc.offset k.reloc.offset) below) [
             | inl x ↦ apart (inr (file, ltb-true j.reloc.section k.reloc.section x))
             | inr x ↦
                 let section : j.reloc.section ≡ k.reloc.section = eqb-true j.reloc.section k.reloc.section (and_parts (j.reloc.section == k.reloc.section) (nat_lt j.reloc.offset k.reloc.offset) x).0 in
-                let part : j.part ≡ k.part = same_Some j.part k.part (sym a.link.part ∙ ap (λ (i : ℕ). part_of (all_placed l.objects.now l.at) i j.reloc.section) file ∙ ap (part_of (all_placed l.objects.now l.at) k.file) section ∙ b.link.part) in
+                let part : j.part ≡ k.part = same_Some j.part k.part (sym a.link.part ∙ ap (λ (i : ℕ). part_of (all_placed objects at) i j.reloc.section) file ∙ ap (part_of (all_placed objects at) k.file) section ∙ b.link.part) in
                 let start : j.part.start ≡ k.part.start = ap (λ (p : Placed). p.start) part in
                 let alone = b.right.alone j.number j.reloc less there section in
                 omega arith
           ]
 
   pub code_behind : is_code j.part.section ≡ true → is_code k.part.section ≡ true → place_of j + place_width j.reloc.kind ≤ place_of k
-  code_behind c d = by_parts (code_parts l.objects.now l.at) (code_order l.objects.now l.at is.sound) (lies_in_code l is j a.link c) (lies_in_code l is k b.link d)
+  code_behind c d = by_parts (code_parts objects at) (code_order objects at is.sound) (lies_in_code objects at is j a.link c) (lies_in_code objects at is k b.link d)
 
   pub data_behind : is_data j.part.section ≡ true → is_data k.part.section ≡ true → place_of j + place_width j.reloc.kind ≤ place_of k
-  data_behind c d = by_parts (data_parts l.objects.now l.at) (data_order l.objects.now l.at is.sound) (lies_in_data l is j a.link c) (lies_in_data l is k b.link d)
+  data_behind c d = by_parts (data_parts objects at) (data_order objects at is.sound) (lies_in_data objects at is j a.link c) (lies_in_data objects at is k b.link d)

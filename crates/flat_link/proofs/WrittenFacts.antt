@@ -6,7 +6,7 @@ use Rattle.std.proofs.lemmas.List.{get_or-drop, get_or-take}
 use Rattle.elf_model.specs.declared.objects.RelocKind.{RelocKind}
 use Rattle.elf_model.specs.declared.objects.RelocKind.TheVariants.{Abs32, Target1, ThmCall, ThmJump24, MovwAbs, MovtAbs, ThmJump19, ThmJump11, ThmJump8, Other}
 use Rattle.elf_model.specs.Fields.{half, word, half_at}
-use Rattle.elf_model.specs.Objects.{place_width}
+use Rattle.elf_model.specs.Objects.{ObjectParts, place_width}
 use Rattle.elf_model.specs.Ranges.{is_long, is_whole, length_at}
 use Rattle.thumb_instr.specs.declared.instructions.Instr.{Instr}
 use Rattle.thumb_instr.specs.declared.refusals.BadInstr.TheVariants.{Unknown}
@@ -19,10 +19,10 @@ use Rattle.reloc_places.specs.Starts.{bytes_of, decoded_at, instr_at}
 use Rattle.reloc_places.specs.Relocations.{is_word, fits_kind, IsPlace}
 use Rattle.reloc_places.specs.Relocations.IsPlace.{in_data, in_code, on_instr}
 use Rattle.reloc_places.proofs.DecodedPlaces.{long_alone}
+use Rattle.thumb_table.specs.declared.placements.Placement.{Placement}
 use Rattle.thumb_table.specs.Layouts.{Placed}
 use Rattle.thumb_table.specs.Links.{Link, Renumbers, IsWritten, place_of, value_of, full}
-use Rattle.flat_link.specs.declared.layout.Layout.{Layout}
-use Rattle.flat_link.specs.Ties.{IsTie}
+use Rattle.flat_link.specs.Ties.{IsTied}
 use Rattle.flat_link.specs.Patches.{code_bytes, width_if, IsPlaceCode}
 use Rattle.flat_link.proofs.TieFacts.{own_bytes}
 
@@ -182,12 +182,12 @@ pub record HasInstr (k : Link) : Type 0 where
   pub fits : fits_kind k.reloc.kind (is_long (half_at k.part.section.bytes k.reloc.offset)) instr ≡ true
   pub width : place_width k.reloc.kind ≡ length_at k.part.section.bytes k.reloc.offset
 
-module _ (l : Layout) (k : Link) (tie : IsTie l k) where
+module _ (objects : List ObjectParts) (at : Placement) (k : Link) (tie : IsTied objects at k) where
   pub has_instr : is_word k.reloc.kind ≡ false → HasInstr k
   has_instr none = go tie.right.place
     where
       own : bytes_of k.object k.reloc.section ≡ k.part.section.bytes
-      own = own_bytes l.objects.now l.at k tie.link
+      own = own_bytes objects at k tie.link
 
       go : IsPlace k.object k.reloc → HasInstr k
       go (in_data s at is word) = absurd (true≢false (sym word ∙ none))

@@ -24,6 +24,12 @@ pub record Fits (objects : List ObjectParts) (at : Placement) : Type 0 where
   pub memory : round_up (length (data_bytes_of objects at)) 8 + at.stack ≤ 16777216
   pub last : at.base + at.room + length (data_bytes_of objects at) ≤ 0x7FFFF000
 
+-- sound objects at a placement that they fit
+pub record Stands (objects : List ObjectParts) (at : Placement) : Type 0 where
+  pub placement : IsPlacement at
+  pub sound : AreObjects objects
+  pub fits : Fits objects at
+
 -- all sections of a layout in their places
 abbrev pub parts_in : Layout → List Placed
 parts_in l = all_placed l.objects.now l.at

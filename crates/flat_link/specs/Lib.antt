@@ -10,3 +10,4 @@ pub mod Placing
 pub mod Sites
 pub mod Stops
 pub mod Ties
+pub mod Existing

@@ -4,6 +4,7 @@
 mod bytes;
 mod entries;
 mod known;
+mod laws;
 mod layout;
 mod linker;
 mod lots;
@@ -24,4 +25,5 @@ mod stops;
 mod symbols;
 mod ties;
 
+pub use laws::lists_have_images;
 pub use linker::link;

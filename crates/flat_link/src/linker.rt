@@ -69,7 +69,7 @@ fn code_of(
     requires all { map defined_of all.now ≡ all_symbols 0 layout.now.objects.now }
     requires ties { AreTies layout.now ties.now }
     requires range { AreInRange layout.now ties.now }
-    ensures { IfOk result (λ code. IsMadeCode layout.now code) }
+    ensures { IfOk result (λ code. IsMadeCode layout.now.objects.now layout.now.at code) }
 {
     let base = layout.at.base;
     let mut bytes = bytes_of(alloc, &layout.code, base as u64)?;
@@ -83,7 +83,7 @@ fn code_of(
 fn memory_of(alloc: Global, layout: &Layout, ties: &[Tie]) -> Result<Memory, AllocError>
     requires layout { IsLayout layout.now }
     requires ties { AreTies layout.now ties.now }
-    ensures { IfOk result (λ memory. IsMadeMemory layout.now memory) }
+    ensures { IfOk result (λ memory. IsMadeMemory layout.now.objects.now layout.now.at memory) }
 {
     let base = layout.at.base + layout.at.room;
     let bytes = bytes_of(alloc, &layout.data, base as u64)?;
@@ -105,7 +105,7 @@ fn image_of<'a>(
     requires all { map defined_of all.now ≡ all_symbols 0 layout.now.objects.now }
     requires ties { AreTies layout.now ties.now }
     requires range { AreInRange layout.now ties.now }
-    ensures { IfOk result (λ image. IsMade layout.now image) }
+    ensures { IfOk result (λ image. IsMade layout.now.objects.now layout.now.at image) }
 {
     let code = code_of(alloc, layout, all, ties)?;
     let memory = memory_of(alloc, layout, ties)?;

@@ -22,7 +22,7 @@ returns c =
     let done = subst (λ (ls : List Link). laid ls c.deref_mut.result.now new) c.requires.ties.all c.patch_all_code.ensures in
     let whole = subst (λ (r : List ℕ). laid (all_links l.objects.now l.at) r new) raw done in
     let same = same_items new c.in_ok-bytes.bytes.items c.in_ok-bytes.bytes.len (c.patch_all_code.ensures.size ∙ ap length c.deref_mut.ensures.value) (sym (c.patch_all_code.ensures.size ∙ c.deref_mut.ensures.len)) in
-    subst (IsMadeCode l) (sym c.new.ensures) (record {
+    subst (IsMadeCode l.objects.now l.at) (sym c.new.ensures) (record {
       base = refl;
       small = λ x. subst (λ (bs : List ℕ). byte_at bs x < 2 ^ 8) c.deref-2.ensures.value (c.are_small.ensures x);
       bytes = subst (laid (all_links l.objects.now l.at) (code_bytes_of l.objects.now l.at)) (sym same) whole;

@@ -9,6 +9,7 @@ use Rattle.flat_link.specs.Layout.{parts_in}
 use Rattle.flat_link.specs.Sites.{Sited, link_of, links_among, all_links, all_sited}
 use Rattle.flat_link.specs.Ties.{AreInRange}
 use Rattle.flat_link.proofs.ImageFacts.{are_ties, none_out, not_long, image_is}
+use Rattle.flat_link.proofs.TieFacts.{standing}
 use Rattle.flat_link.proofs.RefusalFacts.{range_is}
 use Rattle.flat_link.proofs.linker.link_laid.Goals as goal
 
@@ -27,7 +28,7 @@ returns-in-Some-clause-refused c =
     let e = made l c.in_ok-ties.ties.items c.deref.result.now _ c.deref.ensures.value c.in_ok-ties.ensures c.requires.sites in
     let is : find p (all_links l.objects.now l.at) ≡ Some (link_of c.in-Some.t) = ap (find p) (sym e) ∙ sym c.in-Some.ensures in
     subst (λ (why : Deny). IsLinkDenial l.objects.now l.at why) (sym c.out_of_range.ensures)
-    (range_is l.objects.now l.at c.requires.layout.sound c.requires.right c.requires.named c.requires.once (not_long l c.requires.layout) (link_of c.in-Some.t) is)
+    (range_is l.objects.now l.at c.requires.layout.sound c.requires.right c.requires.named c.requires.once (not_long l.objects.now l.at (standing l c.requires.layout)) (link_of c.in-Some.t) is)
 
 pub image_of-requires-clause-ties : goal.image_of-requires-clause-ties
 image_of-requires-clause-ties c =
@@ -41,6 +42,6 @@ pub returns-clause-image : goal.returns-clause-image
 returns-clause-image c =
     let l = c.args.layout.now in
     let e = made l c.in_ok-ties.ties.items c.deref.result.now _ c.deref.ensures.value c.in_ok-ties.ensures c.requires.sites in
-    image_is l c.requires.layout c.requires.right c.requires.named c.requires.once
+    image_is l.objects.now l.at (standing l c.requires.layout) c.requires.right c.requires.named c.requires.once
     (λ k there. none_out l c.deref.result.now (sym c.in-None.ensures) k (subst (λ (ks : List Link). Contains ks k) (sym e) there))
     c.in_ok-image_of-in-None.field-0 c.in_ok-image_of-in-None.ensures

@@ -22,4 +22,4 @@ returns c =
     let done = subst (λ (ls : List Link). laid ls c.deref_mut.result.now new) c.requires.ties.all c.patch_all_data.ensures in
     let whole = subst (λ (r : List Cell). laid (all_links l.objects.now l.at) r new) raw done in
     let same = same_items new c.in_ok-cells.cells.items c.in_ok-cells.cells.len (c.patch_all_data.ensures.size ∙ ap length c.deref_mut.ensures.value) (sym (c.patch_all_data.ensures.size ∙ c.deref_mut.ensures.len)) in
-    subst (IsMadeMemory l) (sym c.new.ensures) (record { base = refl; cells = subst (laid (all_links l.objects.now l.at) (map bare (data_bytes_of l.objects.now l.at))) (sym same) whole })
+    subst (IsMadeMemory l.objects.now l.at) (sym c.new.ensures) (record { base = refl; cells = subst (laid (all_links l.objects.now l.at) (map bare (data_bytes_of l.objects.now l.at))) (sym same) whole })

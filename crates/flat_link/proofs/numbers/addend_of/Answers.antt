@@ -1,7 +1,7 @@
 use Rattle.std.proofs.Common.{◌∙◌, ap, List, ℕ}
 use Rattle.reloc_places.specs.Relocations.{addend}
 use Rattle.flat_link.specs.Sites.{link_of}
-use Rattle.flat_link.proofs.TieFacts.{link_addend, link_within}
+use Rattle.flat_link.proofs.TieFacts.{standing, link_addend, link_within}
 use Rattle.reloc_places.proofs.RelocPlaces.{right_number}
 use Rattle.flat_link.proofs.numbers.addend_of.Goals as goal
 
@@ -20,4 +20,4 @@ addend-requires-clause-word c =
 pub returns : goal.returns
 returns c =
     c.addend.ensures ∙ ap (λ (b : List ℕ). addend b c.args.t.now.site.reloc.now) c.bytes_of.ensures
-    ∙ link_addend c.args.layout.now c.requires.layout (link_of c.args.t.now) c.requires.tie.link
+    ∙ link_addend c.args.layout.now.objects.now c.args.layout.now.at (standing c.args.layout.now c.requires.layout) (link_of c.args.t.now) c.requires.tie.link

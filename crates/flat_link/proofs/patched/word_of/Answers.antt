@@ -19,5 +19,5 @@ returns-then-leads_to_code c =
     let n = full parts k in
     let leads : leads_to_code parts k ≡ true = sym c.leads_to_code.ensures ∙ c.if-leads_to_code.true in
     let mark : mark_of parts k ≡ Entry n =
-    word_mark k.reloc.kind (leads_to_code parts k) n (data_word c.args.layout.now k c.requires.tie c.requires.datum) ∙ ap (λ (b : Bool). cond b (Entry n) Plain) leads in
+    word_mark k.reloc.kind (leads_to_code parts k) n (data_word c.args.layout.now.objects.now c.args.layout.now.at k c.requires.tie c.requires.datum) ∙ ap (λ (b : Bool). cond b (Entry n) Plain) leads in
     c.entry.ensures ∙ ap (λ (m : ℕ). marked m (Entry m)) c.full-full.ensures ∙ ap (marked n) (sym mark)

@@ -25,7 +25,7 @@ renumbered-requires c =
     let k = link_of c.args.t.now in
     let own = c.bytes_of-bytes.ensures ∙ own_bytes c.args.layout.now.objects.now c.args.layout.now.at k c.requires.tie.link in
     let is : decoded_at k.part.section.bytes k.reloc.offset 0 ≡ Ok c.in-Ok.i = ap (λ (b : List ℕ). decoded_at b k.reloc.offset 0) (sym own) ∙ sym c.in-Ok.ensures in
-    subst (IsNumberOf c.in-Ok.i) (sym c.value_of.ensures) (number_may c.args.layout.now k c.requires.tie c.requires.instr (parts_in c.args.layout.now) c.requires.range c.in-Ok.i is).number
+    subst (IsNumberOf c.in-Ok.i) (sym c.value_of.ensures) (number_may c.args.layout.now.objects.now c.args.layout.now.at k c.requires.tie c.requires.instr (parts_in c.args.layout.now) c.requires.range c.in-Ok.i is).number
 
 pub width_at-requires : goal.width_at-requires
 width_at-requires c =
@@ -37,5 +37,5 @@ returns-in-Some c =
     let own = c.bytes_of-bytes.ensures ∙ own_bytes c.args.layout.now.objects.now c.args.layout.now.at k c.requires.tie.link in
     let is : decoded_at k.part.section.bytes k.reloc.offset 0 ≡ Ok c.in-Ok.i = ap (λ (b : List ℕ). decoded_at b k.reloc.offset 0) (sym own) ∙ sym c.in-Ok.ensures in
     let made : Some c.in-Some.j ≡ Some (renumbered (value_of (parts_in c.args.layout.now) k) c.in-Ok.i) = c.in-Some.ensures ∙ ap (λ (n : ℕ). Some (renumbered n c.in-Ok.i)) c.value_of.ensures in
-    placed_code c.args.layout.now k c.requires.tie c.requires.instr (parts_in c.args.layout.now) c.requires.range c.in-Ok.i is c.in-Some.j made c.width_at.result
+    placed_code c.args.layout.now.objects.now c.args.layout.now.at k c.requires.tie c.requires.instr (parts_in c.args.layout.now) c.requires.range c.in-Ok.i is c.in-Some.j made c.width_at.result
     (c.width_at.ensures ∙ ap (λ (b : List ℕ). width_if (is_long (half_at b k.reloc.offset))) own) c.encode.result c.encode.ensures.gives c.encode.ensures.none c.encode.ensures.full
