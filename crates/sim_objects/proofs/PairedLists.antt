@@ -14,7 +14,7 @@ use Rattle.sim_relation.specs.Hardened.{AreMaps, Hardened}
 use Rattle.sim_objects.specs.Lists.{Pairing, plains, hards}
 use Rattle.sim_objects.specs.Hardening.{AllSkip}
 use Rattle.sim_objects.specs.Mapping.{maps_of}
-use Rattle.sim_objects.specs.Harden.{HasImages}
+use Rattle.flat_link.specs.Existing.{HaveBytes}
 use Rattle.sim_objects.specs.PairedLists.{IsInput, PairedListsHarden}
 use Rattle.sim_objects.proofs.Moving.{got_map}
 use Rattle.sim_objects.proofs.HavingMaps.{pairs_have_maps}
@@ -84,11 +84,11 @@ have_maps F pairs inputs = record { count = length-map pairs (λ (q : Pairing F 
         subst (λ (z : ObjectParts). HasMap z rows) q.2 (subst (λ (r : List MapRow). HasMap q.0.hard r) one (pairs_have_maps F 2 4 q.0 (omega arith) is.few is.small is.unnamed))
 
 pub paired_lists_harden : PairedListsHarden
-paired_lists_harden ins outs F low high are made =
+paired_lists_harden ins outs F low high are =
     let z = paired_up F high ins outs are.count are.paired in
     let plain = z.1.plain in
     let hard = z.1.hard in
     let inputs = λ (i : ℕ) (q : Pairing F 2 4) (e : slice_get z.0 i ≡ Some q). are.inputs i q.plain (ap (λ (l : List ObjectParts). slice_get l i) (sym plain) ∙ get_map (λ (w : Pairing F 2 4). w.plain) z.0 i q e) in
     subst (λ (l : List ObjectParts). Hardened l outs F) plain
     (subst (λ (l : List ObjectParts). Hardened (plains z.0) l F) hard
-    (lists_harden F z.0 low high z.1.all (subst AreObjects (sym plain) are.objects) (subst AreObjects (sym hard) are.forms) (have_maps F z.0 inputs) (subst HasImages (sym hard) made)))
+    (lists_harden F z.0 low high z.1.all (subst AreObjects (sym plain) are.objects) (subst AreObjects (sym hard) are.forms) (have_maps F z.0 inputs) (subst HaveBytes (sym hard) are.bytes)))

@@ -11,7 +11,7 @@ ghost use Rattle.sim_objects.specs.Exits.{NothingAtExit};
 ghost use Rattle.sim_objects.specs.Following.{UnitsFollow};
 ghost use Rattle.sim_objects.specs.Going.{PairsAreLinked, PointsGoOn};
 ghost use Rattle.sim_objects.specs.Growth.{PairsAreShort};
-ghost use Rattle.sim_objects.specs.Harden.{HasImages, ListsHarden};
+ghost use Rattle.sim_objects.specs.Harden.{ListsHarden};
 ghost use Rattle.sim_objects.specs.Hardening.{ListsEndAlike};
 ghost use Rattle.sim_objects.specs.HavingMaps.{PairsHaveMaps};
 ghost use Rattle.sim_objects.specs.Linking.{ListsAreLinked};
@@ -180,13 +180,12 @@ pub fn pairs_are_short()
 {}
 
 /// Two lists of pairs for two copies are hardened, as the theorem says it, where the hardened objects have
-/// their maps, and images wherever they can be linked.
+/// their maps.
 pub fn lists_harden()
     ensures { ListsHarden }
 {}
 
-/// So two lists of objects that are paired one by one, each with a factor of at most F, are hardened, where the
-/// hardened ones have images wherever they can be linked.
+/// So two lists of objects that are paired one by one, each with a factor of at most F, are hardened.
 pub fn paired_lists_harden()
     ensures { PairedListsHarden }
 {}
@@ -196,6 +195,5 @@ pub fn paired_list_hardens(plain: &[Object], hard: &[Object], factor: u32)
     requires low { 1 ≤ factor }
     requires high { factor ≤ 16 }
     requires paired { ArePairedLists plain.now hard.now factor }
-    requires images { HasImages hard.now }
     ensures { Hardened plain.now hard.now factor }
 {}

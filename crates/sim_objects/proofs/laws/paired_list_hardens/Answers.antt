@@ -2,4 +2,4 @@ use Rattle.sim_objects.proofs.PairedLists.{paired_lists_harden}
 use Rattle.sim_objects.proofs.laws.paired_list_hardens.Goals as goal
 
 pub returns : goal.returns
-returns c = paired_lists_harden c.args.plain.now c.args.hard.now c.args.factor c.requires.low c.requires.high c.requires.paired c.requires.images
+returns c = paired_lists_harden c.args.plain.now c.args.hard.now c.args.factor c.requires.low c.requires.high c.requires.paired
