@@ -14,4 +14,5 @@ mod rows;
 mod target_symbols;
 mod targets;
 mod turns;
+mod word_numbers;
 mod word_places;
