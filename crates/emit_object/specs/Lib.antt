@@ -12,3 +12,4 @@ pub mod FirstItems
 pub mod Numbering
 pub mod MovedSymbols
 pub mod LieInside
+pub mod NewSections

@@ -8,6 +8,7 @@ mod mapping;
 mod marks;
 mod moved_symbols;
 mod moves;
+mod new_sections;
 mod new_symbols;
 mod numbers;
 mod rows;
