@@ -13,3 +13,4 @@ pub mod Numbering
 pub mod MovedSymbols
 pub mod LieInside
 pub mod NewSymbolNumbers
+pub mod NewSections
