@@ -85,10 +85,10 @@ have_maps F pairs inputs = record { count = length-map pairs (λ (q : Pairing F 
 
 pub paired_lists_harden : PairedListsHarden
 paired_lists_harden ins outs F low high are =
-    let z = paired_up F high ins outs are.count are.paired in
+    let z = paired_up F high ins outs are.pairs.count are.pairs.paired in
     let plain = z.1.plain in
     let hard = z.1.hard in
-    let inputs = λ (i : ℕ) (q : Pairing F 2 4) (e : slice_get z.0 i ≡ Some q). are.inputs i q.plain (ap (λ (l : List ObjectParts). slice_get l i) (sym plain) ∙ get_map (λ (w : Pairing F 2 4). w.plain) z.0 i q e) in
+    let inputs = λ (i : ℕ) (q : Pairing F 2 4) (e : slice_get z.0 i ≡ Some q). are.pairs.inputs i q.plain (ap (λ (l : List ObjectParts). slice_get l i) (sym plain) ∙ get_map (λ (w : Pairing F 2 4). w.plain) z.0 i q e) in
     subst (λ (l : List ObjectParts). Hardened l outs F) plain
     (subst (λ (l : List ObjectParts). Hardened (plains z.0) l F) hard
     (lists_harden F z.0 low high z.1.all (subst AreObjects (sym plain) are.objects) (subst AreObjects (sym hard) are.forms) (have_maps F z.0 inputs) (subst HaveBytes (sym hard) are.bytes)))

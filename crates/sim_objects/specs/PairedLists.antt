@@ -15,13 +15,17 @@ pub record IsInput (o : ObjectParts) : Type 0 where
   pub unnamed : (j : ℕ) (s : Section) → slice_get o.sections j ≡ Some s → is_map_named s ≡ false
 
 -- for two copies and four results, with factors of at most F
-pub record ArePairedLists (ins outs : List ObjectParts) (F : ℕ) : Type 0 where
+pub record ArePairedOneByOne (ins outs : List ObjectParts) (F : ℕ) : Type 0 where
   pub count : length outs ≡ length ins
+  pub inputs : (i : ℕ) (o : ObjectParts) → slice_get ins i ≡ Some o → IsInput o
+  pub paired : (i : ℕ) (o h : ObjectParts) → slice_get ins i ≡ Some o → slice_get outs i ≡ Some h → (G : ℕ) × (G ≤ F) × Paired o h G 2 4 everywhere
+
+-- With what the types of objects give.
+pub record ArePairedLists (ins outs : List ObjectParts) (F : ℕ) : Type 0 where
   pub objects : AreObjects ins
   pub forms : AreObjects outs
   pub bytes : HaveBytes outs
-  pub inputs : (i : ℕ) (o : ObjectParts) → slice_get ins i ≡ Some o → IsInput o
-  pub paired : (i : ℕ) (o h : ObjectParts) → slice_get ins i ≡ Some o → slice_get outs i ≡ Some h → (G : ℕ) × (G ≤ F) × Paired o h G 2 4 everywhere
+  pub pairs : ArePairedOneByOne ins outs F
 
 abbrev pub PairedListsHarden : Type 0
 PairedListsHarden = (ins outs : List ObjectParts) (F : ℕ) → 1 ≤ F → F ≤ 16 → ArePairedLists ins outs F → Hardened ins outs F

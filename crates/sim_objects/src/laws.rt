@@ -1,4 +1,4 @@
-//! Laws of the charts of paired objects. The functions do nothing: their contracts are the laws.
+//! Laws of the charts of paired objects. The functions make nothing: their contracts are the laws.
 
 ghost use Rattle.std.specs.Prelude.{◌≤◌};
 ghost use Rattle.sim_relation.specs.Hardened.{Hardened};
@@ -19,13 +19,14 @@ ghost use Rattle.sim_objects.specs.Living.{PointsLive, PointsSpare};
 ghost use Rattle.sim_objects.specs.Mapping.{ChartsFollowMaps};
 ghost use Rattle.sim_objects.specs.Meeting.{UnitsMeet};
 ghost use Rattle.sim_objects.specs.Moving.{EntriesAreCharted, LinksEnter, MovesAreCharted};
-ghost use Rattle.sim_objects.specs.PairedLists.{ArePairedLists, PairedListsHarden};
+ghost use Rattle.sim_objects.specs.PairedLists.{ArePairedOneByOne, PairedListsHarden};
 ghost use Rattle.sim_objects.specs.Skipping.{AllMaySkip, UnitsKeepOut};
 ghost use Rattle.sim_objects.specs.Standing.{ChartsHavePoints, PointsStand};
 ghost use Rattle.sim_objects.specs.StandingUnits.{UnitsStand};
 ghost use Rattle.sim_objects.specs.Together.{UnitsAreLinked};
 ghost use Rattle.sim_objects.specs.Working.{UnitsWork};
 
+use crate::given::{are_objects, have_bytes};
 use elf_model::Object;
 
 /// Lists of pairs with images have a chart.
@@ -194,6 +195,10 @@ pub fn paired_lists_harden()
 pub fn paired_list_hardens(plain: &[Object], hard: &[Object], factor: u32)
     requires low { 1 ≤ factor }
     requires high { factor ≤ 16 }
-    requires paired { ArePairedLists plain.now hard.now factor }
+    requires paired { ArePairedOneByOne plain.now hard.now factor }
     ensures { Hardened plain.now hard.now factor }
-{}
+{
+    are_objects(plain);
+    are_objects(hard);
+    have_bytes(hard);
+}
