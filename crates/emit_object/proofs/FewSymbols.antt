@@ -23,7 +23,7 @@ use Rattle.hardened_form.specs.Items.{Item}
 use Rattle.hardened_form.specs.Turns.{Target, place_of_target, AreTargets}
 use Rattle.hardened_form.specs.MappingSymbols.{Mapping, place_of_mapping, words_in, IsMapping, AreMappings, mapping_symbol}
 use Rattle.hardened_form.specs.Symbols.{moved, stays, stays_in, is_shared, target_symbol}
-use Rattle.emit_object.specs.LaidPlaces.{places_of}
+use Rattle.branch_layout.specs.Laid.{laid_places as places_of}
 use Rattle.emit_object.specs.Laid.{Matches, HasSizes}
 use Rattle.emit_object.specs.WordPlaces.{pool_place, islands}
 use Rattle.emit_object.specs.TurnedPlaces.{turned_place}

@@ -18,7 +18,7 @@ use Rattle.flow_recover.specs.WholeFlows.{place_of_word}
 use Rattle.seq_core.specs.Places.{PlacedParts, LayoutParts}
 use Rattle.hardened_form.specs.Items.{Item, old_place, item_of_unit, item_of_word}
 use Rattle.hardened_form.specs.Standing.{old_points, old_words, first_from}
-use Rattle.emit_object.specs.LaidPlaces.{unit_place}
+use Rattle.branch_layout.specs.Laid.{laid_place as unit_place}
 use Rattle.emit_object.specs.Laid.{Matches}
 use Rattle.emit_object.specs.FirstItems.{AreItemsOf, unit_items, word_items, IsFirstFrom, first_of, nearer_or}
 use Rattle.emit_object.proofs.FirstFacts.{Before, entry_at, first_entry, among}

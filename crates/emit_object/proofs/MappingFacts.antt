@@ -20,7 +20,7 @@ use Rattle.hardened_form.specs.Places.{UnitPlace}
 use Rattle.hardened_form.specs.Standing.{units, pool}
 use Rattle.hardened_form.specs.MappingSymbols.{Mapping, pool_word_in, island_in, words_in, has_word, follows_word, has_unit, IsMapping, place_of_mapping, AreMappings}
 use Rattle.hardened_form.specs.MappingSymbols.{IsMapping as mapping}
-use Rattle.emit_object.specs.LaidPlaces.{unit_place, places_of}
+use Rattle.branch_layout.specs.Laid.{laid_place as unit_place, laid_places as places_of}
 use Rattle.emit_object.specs.WordPlaces.{pool_place, island_by, island_place, begin_place, islands, begins, IsSetOf}
 use Rattle.emit_object.specs.Marks.{has, follows, is_first, word_marks, first_marks, mapping_at}
 use Rattle.emit_object.specs.Laid.{Matches, HasSizes}

@@ -14,7 +14,7 @@ use Rattle.seq_core.specs.Places.{PlacedParts, LayoutParts}
 use Rattle.hardened_form.specs.Places.{UnitPlace}
 use Rattle.hardened_form.specs.Items.{Item, item_of_unit, item_of_word, AreItems}
 use Rattle.hardened_form.specs.Standing.{old_points, old_words, new_of, is_unit_of, new_place}
-use Rattle.emit_object.specs.LaidPlaces.{unit_place, places_of}
+use Rattle.branch_layout.specs.Laid.{laid_place as unit_place, laid_places as places_of}
 
 -- pairs by their numbers
 module _ {X Y : Type 0} where

@@ -22,7 +22,7 @@ use Rattle.hardened_form.specs.Turns.{turns_by, is_direct, AreTargets}
 use Rattle.hardened_form.specs.MappingSymbols.{Mapping, AreMappings, mapping_symbol}
 use Rattle.hardened_form.specs.Symbols.{Lists, moved, stays, is_shared, target_symbol}
 use Rattle.hardened_form.specs.Relocs.{first_target, first_shared}
-use Rattle.emit_object.specs.LaidPlaces.{places_of}
+use Rattle.branch_layout.specs.Laid.{laid_places as places_of}
 use Rattle.emit_object.specs.RowLists.{ordinals_from}
 use Rattle.emit_object.specs.TargetPlaces.{target_at}
 use Rattle.emit_object.specs.TargetSymbols.{function_by, function_in, functions_of}

@@ -37,7 +37,7 @@ use Rattle.hardened_form.specs.Turns.{Target, turns_by, is_direct, old_target, I
 use Rattle.hardened_form.specs.MappingSymbols.{Mapping, IsMapping, mapping_symbol}
 use Rattle.hardened_form.specs.Symbols.{Lists, size_of, moved_to, moved_in, moved, stays, stays_in, is_shared, target_symbol, new_symbols}
 use Rattle.hardened_form.specs.HardenedForms.{AreLists}
-use Rattle.emit_object.specs.LaidPlaces.{places_of}
+use Rattle.branch_layout.specs.Laid.{laid_places as places_of}
 use Rattle.emit_object.specs.Laid.{Matches}
 use Rattle.emit_object.specs.FirstItems.{AreItemsOf}
 use Rattle.emit_object.specs.LieInside.{LieInside}

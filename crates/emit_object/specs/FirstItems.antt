@@ -6,7 +6,7 @@ use Rattle.flow_recover.specs.Flows.{FlowParts}
 use Rattle.seq_core.specs.Places.{LayoutParts}
 use Rattle.hardened_form.specs.Items.{Item, AreItems, item_of_unit, item_of_word}
 use Rattle.hardened_form.specs.Standing.{old_points, old_words, is_from}
-use Rattle.emit_object.specs.LaidPlaces.{unit_place, places_of}
+use Rattle.branch_layout.specs.Laid.{laid_place as unit_place, laid_places as places_of}
 
 -- all of them, in order
 abbrev pub AreItemsOf : FlowParts → LayoutParts → List Item → Type 0

@@ -6,7 +6,7 @@ use Rattle.flow_recover.specs.declared.flows.Point.{Point}
 use Rattle.flow_recover.specs.Flows.{FlowParts}
 use Rattle.seq_core.specs.Places.{PlacedParts, LayoutParts}
 use Rattle.hardened_form.specs.MappingSymbols.{has_word, has_unit}
-use Rattle.emit_object.specs.LaidPlaces.{places_of}
+use Rattle.branch_layout.specs.Laid.{laid_places as places_of}
 
 -- It has a unit for each point, of its section, and a place for each word; no unit with bytes begins at a word.
 pub record Matches (f : FlowParts) (l : LayoutParts) : Type 0 where

@@ -1,4 +1,3 @@
-pub mod LaidPlaces
 pub mod Readable
 pub mod TurnedPlaces
 pub mod Lasting
@@ -14,3 +13,5 @@ pub mod MovedSymbols
 pub mod LieInside
 pub mod NewSymbolNumbers
 pub mod NewSections
+pub mod UnitCopies
+pub mod Emitting

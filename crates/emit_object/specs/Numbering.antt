@@ -8,7 +8,7 @@ use Rattle.hardened_form.specs.Items.{Item}
 use Rattle.hardened_form.specs.Symbols.{Lists, new_symbols}
 use Rattle.hardened_form.specs.Relocs.{first_target, new_number}
 use Rattle.hardened_form.specs.HardenedForms.{AreLists}
-use Rattle.emit_object.specs.LaidPlaces.{places_of}
+use Rattle.branch_layout.specs.Laid.{laid_places as places_of}
 use Rattle.emit_object.specs.TargetPlaces.{target_at}
 
 -- The targets, by section and old offset; the number of the first of their functions; and each old symbol's number now.

@@ -4,7 +4,7 @@ ghost use Rattle.std.specs.Prelude.{◌≡◌, ◌+◌, ◌<◌, ◌^◌, ◌++�
 ghost use Rattle.std.specs.List.{zip};
 ghost use Rattle.elf_model.specs.Objects.{ObjectParts, is_within};
 ghost use Rattle.hardened_form.specs.MappingSymbols.{Mapping, AreMappings, mapping_symbol as symbol_of_mapping};
-ghost use Rattle.emit_object.specs.LaidPlaces.{places_of};
+ghost use Rattle.branch_layout.specs.Laid.{laid_places as places_of};
 ghost use Rattle.emit_object.specs.WordPlaces.{pool_place, islands};
 ghost use Rattle.emit_object.specs.Marks.{mapping_at};
 ghost use Rattle.emit_object.specs.Laid.{Matches, HasSizes};

@@ -4,7 +4,7 @@ ghost use Rattle.std.specs.Prelude.{◌≡◌, ℕ, List, Some};
 ghost use Rattle.flow_recover.specs.Points.{PointsRise};
 ghost use Rattle.hardened_form.specs.Items.{Item, AreItems};
 ghost use Rattle.hardened_form.specs.Standing.{old_points, old_words, new_place as place_among};
-ghost use Rattle.emit_object.specs.LaidPlaces.{places_of};
+ghost use Rattle.branch_layout.specs.Laid.{laid_places as places_of};
 ghost use Rattle.emit_object.specs.Laid.{Matches, BeginsAt};
 
 use flow_recover::{Flow, point_at};

@@ -12,7 +12,7 @@ ghost use Rattle.hardened_form.specs.Items.{Item};
 ghost use Rattle.hardened_form.specs.Sections.{AreSections};
 ghost use Rattle.hardened_form.specs.Standing.{new_place as new_place_among};
 ghost use Rattle.hardened_form.specs.Symbols.{moved as moved_by, stays as stays_among, is_shared};
-ghost use Rattle.emit_object.specs.LaidPlaces.{places_of};
+ghost use Rattle.branch_layout.specs.Laid.{laid_places as places_of};
 ghost use Rattle.emit_object.specs.WordPlaces.{pool_place, islands};
 ghost use Rattle.emit_object.specs.TargetPlaces.{target_at};
 ghost use Rattle.emit_object.specs.TargetSymbols.{function_by, functions_of};

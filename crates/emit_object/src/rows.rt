@@ -6,7 +6,7 @@ ghost use Rattle.elf_model.specs.Objects.{is_within};
 ghost use Rattle.flow_recover.specs.Points.{end_of as end_of_point};
 ghost use Rattle.flow_recover.specs.WholeFlows.{IsFlow};
 ghost use Rattle.hardened_form.specs.Rows.{AreRows};
-ghost use Rattle.emit_object.specs.LaidPlaces.{unit_place, places_of};
+ghost use Rattle.branch_layout.specs.Laid.{laid_place as unit_place, laid_places as places_of};
 ghost use Rattle.emit_object.specs.RowLists.{ordinals_from, start_row as start_row_of, return_row as return_row_of, is_earlier as is_earlier_row, merged, rows_from, UnitFits, PointFits};
 
 use elf_model::{Limit, MapRow, Object, RowKind, Section, is_code};

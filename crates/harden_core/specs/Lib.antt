@@ -1,3 +1,2 @@
-pub mod Scratch
-pub mod Spots
-pub mod Units
+pub mod Denials
+pub mod Hardening

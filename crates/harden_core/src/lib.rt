@@ -1,10 +1,8 @@
-//! From an object to its hardened form, step by step: which registers sequences may spoil, and the units of
-//! points.
+//! An object and its hardened form: from the object's code to the object that a linker takes in its place.
 #![tactic(auto)]
 
-mod building;
-mod lacks;
-mod scratch;
-mod units;
+mod counting;
+mod hardening;
 
-pub use units::units_of;
+pub use hardening::{Hardened, harden};
+pub use sim_relation::Setting;

@@ -4,6 +4,8 @@
 mod address_maps;
 pub mod laws;
 mod sameness;
+mod setting;
 
 pub use address_maps::{AddressMap, Taken};
 pub use sameness::same;
+pub use setting::Setting;

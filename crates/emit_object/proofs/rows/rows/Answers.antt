@@ -4,7 +4,7 @@ use Rattle.std.specs.List.{zip}
 use Rattle.seq_core.specs.Places.{PlacedParts}
 use Rattle.hardened_form.specs.Places.{UnitPlace}
 use Rattle.flow_recover.specs.declared.flows.Point.{Point}
-use Rattle.emit_object.specs.LaidPlaces.{unit_place}
+use Rattle.branch_layout.specs.Laid.{laid_place as unit_place}
 use Rattle.emit_object.specs.RowLists.{ordinals_from, rows_from, PointFits}
 use Rattle.emit_object.proofs.RowPoints.{points_fit, are_rows}
 use Rattle.emit_object.proofs.rows.rows.Goals as goal

@@ -2,7 +2,7 @@ use Rattle.std.proofs.Common.{sym, ap, ◌∙◌, ◌++◌, Option, Vec, Global,
 use Rattle.std.specs.Prelude.{slice_index}
 use Rattle.std.specs.Option.{option_to_list}
 use Rattle.elf_model.specs.declared.objects.MapRow.{MapRow}
-use Rattle.emit_object.specs.LaidPlaces.{unit_place}
+use Rattle.branch_layout.specs.Laid.{laid_place as unit_place}
 use Rattle.emit_object.proofs.RowTurns.{turned, ended}
 use Rattle.emit_object.proofs.rows.rows_in.Goals as goal
 use Rattle.emit_object.proofs.rows.rows_in.Goals.{in-Some+in_ok-push, in_default}

@@ -1,7 +1,7 @@
 use Rattle.std.proofs.Common.{◌≡◌, ◌++◌, drop, map}
 use Rattle.std.specs.Prelude.{slice_index, None}
 use Rattle.std.specs.List.{zip}
-use Rattle.emit_object.specs.LaidPlaces.{unit_place}
+use Rattle.branch_layout.specs.Laid.{laid_place as unit_place}
 use Rattle.emit_object.specs.RowLists.{rows_from}
 use Rattle.emit_object.proofs.rows.rows_in.Given as goal
 

@@ -1,7 +1,0 @@
-use Rattle.std.proofs.Common.{◌≡◌, ◌++◌, drop}
-use Rattle.liveness.specs.Spots.{picked}
-use Rattle.harden_core.specs.Spots.{free_in}
-use Rattle.harden_core.proofs.scratch.push_free.Given as goal
-
-abbrev pub invariant-loop-n : goal.invariant-loop-n
-invariant-loop-n l = l.free.items ++ picked (free_in l.busy) (drop l.n-index l.order) ≡ l.fn.free.items ++ picked (free_in l.busy) l.order

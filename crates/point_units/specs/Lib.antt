@@ -1,0 +1,3 @@
+pub mod Scratch
+pub mod Spots
+pub mod Units
