@@ -1,7 +1,6 @@
 //! From an object to its hardened form.
 
-ghost use Rattle.std.specs.Prelude.{◌≡◌, ◌<◌, ◌^◌, length, IfOk, IfErr, IsTrue};
-ghost use Rattle.std.specs.List.{sum_by};
+ghost use Rattle.std.specs.Prelude.{◌≡◌, IfOk, IfErr, IsTrue};
 ghost use Rattle.elf_model.specs.Objects.{is_within};
 ghost use Rattle.sim_relation.specs.Accepted.{boundaries};
 ghost use Rattle.sim_relation.specs.Pairs.{Paired, everywhere};
@@ -41,8 +40,6 @@ pub fn harden(alloc: Global, o: &Object, s: &Setting) -> Result<Hardened, Deny>
     requires results { s.now.results ≡ 4 }
     ensures hardened { IfOk result (λ out. IsHardening o.now s.now.copies s.now.results out) }
     ensures paired { IfOk result (λ out. Paired o.now out.object out.factor s.now.copies s.now.results everywhere) }
-    ensures room { IfOk result (λ out. IsTrue (is_within out.object Limit.ANY)) }
-    ensures bytes { IfOk result (λ out. sum_by (λ t. length t.bytes) out.object.sections < 2 ^ 30) }
     ensures refused { IfErr result (λ why. IsHardenDenial o.now (boundaries s.now.results) s.now.copies why) }
 {
     o.sound();
