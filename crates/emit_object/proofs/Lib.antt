@@ -17,3 +17,6 @@ pub mod SoundSymbols
 pub mod WholeSymbols
 pub mod FewSymbols
 pub mod NewRelocFacts
+pub mod KeptFacts
+pub mod SectionFacts
+pub mod LayoutGives

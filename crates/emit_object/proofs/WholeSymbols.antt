@@ -46,7 +46,7 @@ use Rattle.emit_object.proofs.MoveFacts.{is_place}
 use Rattle.emit_object.proofs.SymbolNames.{target_names, is_local, locals_come_first}
 use Rattle.emit_object.proofs.SoundSymbols.{is_whole, place_home, at_home, section_begins, moved_sound, kept_placed, HasPlace}
 
-each_of : {X : Type 0} (p : X → Bool) (xs : List X) → ((x : X) → Contains xs x → p x ≡ true) → list_all p xs ≡ true
+pub each_of : {X : Type 0} (p : X → Bool) (xs : List X) → ((x : X) → Contains xs x → p x ≡ true) → list_all p xs ≡ true
 each_of p [] all = refl
 each_of p (x ∷ xs) all = and_from (p x) (list_all p xs) (all x (contains_here x xs)) (each_of p xs (λ y h. all y (contains_later x xs y h)))
 

@@ -2,6 +2,7 @@
 #![tactic(auto)]
 
 mod first_items;
+mod kept_bytes;
 mod lasting;
 mod map_section;
 mod mapping;
