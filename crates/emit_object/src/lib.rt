@@ -19,3 +19,5 @@ mod targets;
 mod turns;
 mod word_numbers;
 mod word_places;
+
+pub use turns::is_turned;
