@@ -15,3 +15,6 @@ pub mod NewSymbolNumbers
 pub mod NewSections
 pub mod UnitCopies
 pub mod Emitting
+pub mod CodePieces
+pub mod CodeBytes
+pub mod NewCode
