@@ -9,3 +9,4 @@ pub mod Flowing
 pub mod Fitting
 pub mod LinkedDo
 pub mod LaidUnits
+pub mod Meaning
