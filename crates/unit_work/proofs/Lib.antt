@@ -10,3 +10,4 @@ pub mod Fitting
 pub mod LinkedDo
 pub mod LaidUnits
 pub mod Meaning
+pub mod UnitStands
