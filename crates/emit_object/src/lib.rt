@@ -18,3 +18,5 @@ mod targets;
 mod turns;
 mod word_numbers;
 mod word_places;
+
+pub use turns::is_turned;
