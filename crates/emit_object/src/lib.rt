@@ -12,6 +12,8 @@ mod new_relocs;
 mod new_sections;
 mod new_symbols;
 mod numbers;
+mod reloc_sites;
+mod reloc_table;
 mod rows;
 mod target_symbols;
 mod targets;
