@@ -17,3 +17,10 @@ pub mod SoundSymbols
 pub mod WholeSymbols
 pub mod FewSymbols
 pub mod NewRelocFacts
+pub mod SiteLists
+pub mod SiteOrder
+pub mod MadeFacts
+pub mod SitePlaces
+pub mod LaidUnits
+pub mod SitesApart
+pub mod SitesAre

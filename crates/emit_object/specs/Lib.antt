@@ -15,3 +15,7 @@ pub mod NewSymbolNumbers
 pub mod NewSections
 pub mod UnitCopies
 pub mod Emitting
+pub mod SmallUnits
+pub mod RelocSites
+pub mod SitesInOrder
+pub mod MadeRelocs
