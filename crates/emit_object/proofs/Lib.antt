@@ -24,3 +24,10 @@ pub mod FlowSections
 pub mod PieceFacts
 pub mod NewCodeFacts
 pub mod WordPieces
+pub mod SiteLists
+pub mod SiteOrder
+pub mod MadeFacts
+pub mod SitePlaces
+pub mod LaidUnits
+pub mod SitesApart
+pub mod SitesAre

@@ -18,3 +18,7 @@ pub mod Emitting
 pub mod CodePieces
 pub mod CodeBytes
 pub mod NewCode
+pub mod SmallUnits
+pub mod RelocSites
+pub mod SitesInOrder
+pub mod MadeRelocs

@@ -14,9 +14,13 @@ mod new_relocs;
 mod new_sections;
 mod new_symbols;
 mod numbers;
+mod reloc_sites;
+mod reloc_table;
 mod rows;
 mod target_symbols;
 mod targets;
 mod turns;
 mod word_numbers;
 mod word_places;
+
+pub use turns::is_turned;
