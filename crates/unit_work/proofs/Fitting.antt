@@ -1,12 +1,15 @@
 -- The steps of a unit: under a guard and with a landing.
-use Rattle.std.proofs.Common.{◌≡◌, ℕ, zero, suc, List, [], ◌∷◌, ◌++◌, take, Bool, true, false, refl, subst, Option, Some, None}
+use Rattle.std.proofs.Common.{◌≡◌, ℕ, zero, suc, ◌+◌, ◌*◌, List, [], ◌∷◌, ◌++◌, take, length, replicate, arith, Bool, true, false, refl, subst, Option, Some, None}
 use Rattle.std.specs.Prelude.{slice_get, ⊤}
 use Rattle.std.proofs.lemmas.Option.{none-some, same_Some}
+use Rattle.std.proofs.lemmas.List.{length-append, length-replicate}
+use Rattle.std.proofs.Math.Nat.{mul-suc}
 use Rattle.thumb_instr.specs.declared.conditions.Cond.{Cond}
 use Rattle.thumb_instr.specs.declared.instructions.Instr.{Instr}
 use Rattle.seq_core.specs.declared.steps.Step.{Step}
 use Rattle.seq_core.specs.declared.steps.Goal.TheVariants.{End}
 use Rattle.seq_core.specs.Classes.{branches_on_zero}
+use Rattle.branch_layout.specs.Copies.{copies_of}
 use Rattle.point_units.specs.Units.{trapping, landed, under}
 use Rattle.unit_work.proofs.Made.{suits, AreMade}
 
@@ -47,3 +50,20 @@ pub sequence_fit : (copies : ℕ) (i : Instr) (E : Type 0) (g : Option Cond) (ne
 sequence_fit copies i E None never ss made zeros guards = landed_fit copies i E never ss (made_fit copies i E ss zeros made)
 sequence_fit copies i E (Some c) never ss made zeros guards =
     (record { many = refl; suits = refl; end = λ e. guards c refl }, landed_fit copies i E never ss (made_fit copies i E ss zeros made))
+
+-- THEIR NUMBER
+
+pub fit_copies : (copies : ℕ) (i : Instr) (E : Type 0) (ss : List Step) → AreFit copies i E ss → length (copies_of ss) ≡ copies * length ss
+fit_copies copies i E [] all = omega arith
+fit_copies copies i E (s ∷ ss) all =
+    let rest = fit_copies copies i E ss all.1 in
+    let both : length (copies_of (s ∷ ss)) ≡ length (replicate s.copies s) + length (copies_of ss) = length-append (replicate s.copies s) (copies_of ss) in
+    let here : length (replicate s.copies s) ≡ s.copies = length-replicate s.copies s in
+    let many : s.copies ≡ copies = all.0.many in
+    let one : copies * suc (length ss) ≡ copies * length ss + copies = mul-suc copies (length ss) in
+    omega arith
+
+-- without a landing the whole of it is before that
+pub all_before : (g : Option Cond) (copies : ℕ) (ss : List Step) → (under g copies (landed false copies ss)).landing ≡ length (under g copies (landed false copies ss)).steps
+all_before None copies ss = refl
+all_before (Some c) copies ss = let e : length ss + 1 ≡ suc (length ss) = omega arith in e

@@ -1,12 +1,12 @@
 -- What the exit of a point says of its instruction.
-use Rattle.std.proofs.Common.{◌≡◌, ◌<◌, ℕ, Bool, true, false, refl, sym, ap, ◌∙◌, subst, arith, length, List, Option, Some, None}
+use Rattle.std.proofs.Common.{◌≡◌, ◌<◌, ℕ, Bool, true, false, refl, sym, ap, ◌∙◌, subst, arith, length, List, Some, None}
 use Rattle.std.specs.Prelude.{slice_get, ◌==◌, if◌then◌else◌}
 use Rattle.std.proofs.lemmas.Option.{none-some, same_Some, slice_get_within}
 use Rattle.elf_model.specs.Objects.{ObjectParts}
 use Rattle.elf_model.proofs.Elements.{element_at}
 use Rattle.thumb_instr.specs.declared.instructions.Instr.{Instr}
 use Rattle.thumb_instr.specs.declared.instructions.Instr.TheVariants as instr
-use Rattle.reloc_places.specs.Relocations.{reloc_at, may_fail}
+use Rattle.reloc_places.specs.Relocations.{reloc_at}
 use Rattle.flow_recover.specs.declared.flows.Point.{Point}
 use Rattle.flow_recover.specs.declared.flows.Exit.{Exit}
 use Rattle.flow_recover.specs.declared.flows.Exit.TheVariants as exit
@@ -16,7 +16,7 @@ use Rattle.flow_recover.specs.Aims.IsAim.{by_offset, by_symbol, not_right}
 use Rattle.flow_recover.specs.Points.{IsPointAt}
 use Rattle.flow_recover.specs.Reach.{node_at}
 use Rattle.flow_recover.specs.Walks.{offset_in}
-use Rattle.flow_recover.specs.WholeFlows.{IsFlow, IsPoint, IsExit, plain_exit}
+use Rattle.flow_recover.specs.WholeFlows.{IsFlow, IsExit, plain_exit}
 use Rattle.flow_recover.specs.WholeFlows.IsExit.{plain, near, far}
 
 -- BL and BLX

@@ -1,5 +1,5 @@
 -- What a layout gives of the copies of one unit.
-use Rattle.std.proofs.Common.{◌≡◌, ◌≢◌, ◌≤◌, ◌<◌, ℕ, zero, suc, ◌+◌, List, [], ◌∷◌, length, map, take, drop, refl, sym, ap, ◌∙◌, subst, arith, Option, Some, None}
+use Rattle.std.proofs.Common.{◌≡◌, ◌≢◌, ◌≤◌, ◌<◌, ℕ, zero, suc, ◌+◌, List, [], ◌∷◌, length, map, take, refl, sym, ap, ◌∙◌, subst, arith, Option, Some, None}
 use Rattle.std.specs.Prelude.{slice_get}
 use Rattle.std.specs.Option.{option_map, option_and_then}
 use Rattle.std.specs.List.{zip}
@@ -20,7 +20,7 @@ use Rattle.flow_recover.specs.Flows.{FlowParts}
 use Rattle.hardened_form.specs.Places.{UnitPlace, Places}
 use Rattle.branch_layout.specs.Copies.{copies_of, length_of, bytes_before}
 use Rattle.branch_layout.specs.Placings.{Stretch, Placing, place_of, places_of, landing_of, IsStretch, word_point}
-use Rattle.branch_layout.specs.Goals.{word_of, ReachesGoal}
+use Rattle.branch_layout.specs.Goals.{ReachesGoal}
 use Rattle.branch_layout.specs.Given.{CanAim, CanStand}
 use Rattle.branch_layout.specs.Coding.{offset_of}
 use Rattle.branch_layout.specs.Layouts.{IsPlacedUnit}

@@ -11,3 +11,4 @@ pub mod LinkedDo
 pub mod LaidUnits
 pub mod Meaning
 pub mod UnitStands
+pub mod Working

@@ -1,5 +1,5 @@
 -- The steps of a unit, linked, do the instruction with the number that linking puts there.
-use Rattle.std.proofs.Common.{◌≡◌, ◌≤◌, ℕ, zero, suc, ◌+◌, List, [], ◌∷◌, map, take, length, Bool, true, false, refl, sym, ap, ◌∙◌, subst, arith, Option, Some, None, Ok}
+use Rattle.std.proofs.Common.{◌≡◌, ◌≤◌, ℕ, zero, suc, List, [], map, take, Bool, true, false, refl, sym, ap, ◌∙◌, subst, arith, Option, Some, None, Ok}
 use Rattle.std.specs.Prelude.{◌&&◌, if◌then◌else◌, slice_get}
 use Rattle.elf_model.specs.declared.objects.Reloc.{Reloc}
 use Rattle.elf_model.specs.Objects.{ObjectParts}
@@ -31,7 +31,8 @@ use Rattle.it_expand.specs.Expanded.{guard_of}
 use Rattle.point_units.specs.Scratch.{scratch_of}
 use Rattle.point_units.specs.Units.{landed, under, left_by}
 use Rattle.sim_relation.specs.Doing.{with_number}
-use Rattle.unit_work.proofs.Made.{is_half, all_made}
+use Rattle.emit_object.specs.UnitCopies.{is_half}
+use Rattle.unit_work.proofs.Made.{AreMade, all_made}
 use Rattle.unit_work.proofs.Linked.{linked_step, same_number, left_same, steps_same, steps_unlinked, guarding, before_landing, guarding_linked}
 use Rattle.unit_work.proofs.Halves.{half_class, half_does}
 
@@ -47,6 +48,21 @@ left_half o (Some r) h = go (is_turned o r)
     go : (b : Bool) → (m : ℕ) × ((if b then instr.Half (record h { imm = 0 }) else instr.Half h) ≡ instr.Half (record h { imm = m }))
     go true = (0, refl)
     go false = (h.imm, refl)
+
+-- the steps by which what is left is replaced
+pub left_made : (o : ObjectParts) (r : Option ℕ) (c : Class) (i : Instr) (qs : List ℕ) (copies : ℕ) → IsOf c i → AreMade copies i (replaced c copies (left_by o (reloc_of o r) i) qs)
+left_made o r c i qs copies of = go (is_half i) refl
+  where
+    go : (b : Bool) → is_half i ≡ b → AreMade copies i (replaced c copies (left_by o (reloc_of o r) i) qs)
+    go false e = subst (λ (j : Instr). AreMade copies i (replaced c copies j qs)) (sym (left_same o (reloc_of o r) i e)) (all_made c i qs copies of)
+    go true e = by_half i e of
+      where
+        by_half : (j : Instr) → is_half j ≡ true → IsOf c j → AreMade copies j (replaced c copies (left_by o (reloc_of o r) j) qs)
+        by_half (instr.Half h) e of =
+            let left = left_half o (reloc_of o r) h in
+            subst (λ (d : Class). AreMade copies (instr.Half h) (replaced d copies (left_by o (reloc_of o r) (instr.Half h)) qs)) (sym (half_class c h of))
+            (subst (λ (j : Instr). AreMade copies (instr.Half h) (twice_steps copies j)) (sym left.1) (record { many = refl; suits = refl; end = λ e. absurd (cc) }, tt))
+        by_half j e of = absurd (cc)
 
 -- what stands for it has a row
 alone_row : (code : CodeBytes) (p : Spots) (c : ℕ) (h : HalfFields) (a b : ℕ) → 2 ≤ c → StepsStand code c p (twice_steps c (instr.Half h)) a b → HasRow (instr.Half h)

@@ -1,27 +1,24 @@
 -- What a linked instruction means for its unit, and which of them always jump.
-use Rattle.std.proofs.Common.{◌≡◌, ◌≢◌, All, zero, suc, ◌⊎◌, get_or, inl, inr, ℕ, ◌+◌, ◌-◌, ◌%◌, Bool, true, false, List, [], ◌∷◌, ◌++◌, refl, sym, ap, ◌∙◌, subst, arith, length, Option, Some, None, Ok, Err}
-use Rattle.std.specs.Prelude.{◌==◌, ◌&&◌, ◌||◌, if◌then◌else◌, slice_set}
+use Rattle.std.proofs.Common.{◌≡◌, ◌≢◌, All, zero, suc, get_or, ℕ, ◌+◌, ◌-◌, ◌%◌, Bool, true, false, List, [], ◌∷◌, ◌++◌, refl, sym, ap, ◌∙◌, arith, length, Option, Some, None, Ok, Err}
+use Rattle.std.specs.Prelude.{◌==◌, if◌then◌else◌, slice_set}
 use Rattle.std.proofs.lemmas.Option.{none-some}
 use Rattle.mark_word.specs.Words.{Word, plain}
 use Rattle.thumb_instr.specs.declared.conditions.Cond.{Cond}
 use Rattle.thumb_instr.specs.declared.conditions.Cond.TheVariants.{Al}
 use Rattle.thumb_instr.specs.declared.instructions.Instr.{Instr}
 use Rattle.thumb_instr.specs.declared.instructions.Instr.TheVariants as instr
-use Rattle.thumb_table.specs.declared.faults.FaultKind.{FaultKind}
 use Rattle.thumb_table.specs.declared.faults.FaultKind.TheVariants.{Trap, BadJump}
-use Rattle.thumb_table.specs.States.{Core, Change, Exit, Falls, Jumps, Outcome, applied, unchanged, write_all, read}
-use Rattle.thumb_table.specs.Conditions.{holds}
-use Rattle.thumb_table.specs.Steps.{goes_on}
+use Rattle.thumb_table.specs.States.{Core, Change, Exit, Falls, Jumps, Outcome, applied, unchanged, write_all}
 use Rattle.thumb_table.specs.Effects.{value, jump_to}
 use Rattle.reloc_places.specs.Relocations.{may_fail}
 use Rattle.liveness.specs.Paths.{branch_cond}
 use Rattle.seq_core.specs.Classes.{has_pc, branches_on_zero}
-use Rattle.seq_core.specs.Does.{SameBut, KeepsMember}
+use Rattle.seq_core.specs.Does.{SameBut}
 use Rattle.seq_core.specs.Meanings.{Ends, linking, meant}
 use Rattle.seq_core.specs.Builders.{leaves_link}
 use Rattle.seq_core.proofs.Again.{write_length, write_other}
 use Rattle.seq_core.specs.Twice.{own_condition}
-use Rattle.it_expand.specs.Expanded.{guard_of, body_of}
+use Rattle.it_expand.specs.Expanded.{body_of}
 use Rattle.sim_relation.specs.Doing.{with_number}
 use Rattle.unit_work.proofs.Flowing.{calls_out}
 
@@ -126,7 +123,7 @@ link_lost lost more h y z fewer same = go h.exit same
               let few = fewer k e in
               let kept = s.members k few.0 in
               let other : get_or (write_all (h.regs ++ link) y.regs) k (plain 0) ≡ get_or (write_all h.regs y.regs) k (plain 0) =
-                  ap (λ (r : List Word). get_or r k (plain 0)) all ∙ write_other link (write_all h.regs y.regs) k (one_other k (14, plain (t + 1)) few.1) in
+              ap (λ (r : List Word). get_or r k (plain 0)) all ∙ write_other link (write_all h.regs y.regs) k (one_other k (14, plain (t + 1)) few.1) in
               record { word = λ l. ap (λ (w : Word). w.bits) (sym other) ∙ kept.word l; n = kept.n; z = kept.z; c = kept.c; v = kept.v };
           memory = s.memory;
           clear = s.clear;

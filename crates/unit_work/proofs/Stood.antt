@@ -1,5 +1,5 @@
 -- Steps stand in a code, each of its copies with its goal reached.
-use Rattle.std.proofs.Common.{◌≡◌, ◌≤◌, ◌<◌, ℕ, zero, suc, ◌+◌, List, [], ◌∷◌, ◌++◌, map, take, drop, replicate, length, refl, sym, ap, ◌∙◌, subst, arith, Some, Ok, append_assoc}
+use Rattle.std.proofs.Common.{◌≡◌, ◌≤◌, ℕ, zero, suc, ◌+◌, List, [], ◌∷◌, ◌++◌, map, take, drop, replicate, length, refl, sym, ap, ◌∙◌, subst, arith, Some, Ok, append_assoc}
 use Rattle.std.specs.Prelude.{slice_get, ⊤}
 use Rattle.std.proofs.lemmas.Option.{none-some, same_Some}
 use Rattle.std.proofs.lemmas.List.{length-append, length-replicate}
@@ -8,13 +8,12 @@ use Rattle.thumb_instr.specs.declared.refusals.ItPlace.TheVariants.{Outside}
 use Rattle.thumb_instr.specs.declared.instructions.Instr.{Instr}
 use Rattle.thumb_instr.specs.Rows.{decode}
 use Rattle.thumb_encode.specs.declared.codes.Code.{Code}
-use Rattle.thumb_encode.specs.declared.codes.Width.{Width}
 use Rattle.thumb_encode.specs.Encoding.{width_of}
 use Rattle.thumb_table.specs.Parts.{CodeBytes}
 use Rattle.thumb_table.specs.Steps.{Fetched, fetch}
 use Rattle.seq_core.specs.declared.steps.Step.{Step}
 use Rattle.seq_core.specs.Denoted.{Spots, Reached, StepCopies, StepsStand}
-use Rattle.branch_layout.specs.Copies.{copies_of, bytes_of, length_of, bytes_before}
+use Rattle.branch_layout.specs.Copies.{copies_of, bytes_of, bytes_before}
 use Rattle.emit_object.specs.UnitCopies.{Copy, copies_from}
 
 -- an instruction of so many bytes stands at an address, and reaches the step's goal
@@ -148,3 +147,8 @@ after_steps_is (s ∷ ss) at cs =
 
 pub steps_end : (ss : List Step) (at : ℕ) (cs : List Code) → after_steps ss at cs ≡ at + bytes_before (map width_of cs) (length (copies_of ss))
 steps_end ss at cs = after_steps_is ss at cs ∙ after_is (length (copies_of ss)) at cs
+
+pub copies_from_length : (at : ℕ) (ts : List Step) (cs : List Code) → length ts ≤ length cs → length (copies_from at ts cs) ≡ length ts
+copies_from_length at [] cs le = refl
+copies_from_length at (t ∷ ts) [] le = absurd (omega arith)
+copies_from_length at (t ∷ ts) (c ∷ cs) le = let rest = copies_from_length (at + bytes c) ts cs (omega arith) in omega arith

@@ -1,13 +1,10 @@
 -- The steps of a unit stand in a code, linked, each with its goal reached.
-use Rattle.std.proofs.Common.{◌≡◌, ◌≤◌, ◌<◌, ℕ, ◌+◌, ◌-◌, ◌*◌, ◌%◌, ◌^◌, List, map, take, length, Bool, true, false, refl, sym, ap, ◌∙◌, subst, arith, Option, Some, None}
-use Rattle.std.specs.Prelude.{slice_get, is_some, ◌&&◌}
+use Rattle.std.proofs.Common.{◌≡◌, ◌≤◌, ℕ, ◌+◌, ◌%◌, ◌^◌, List, map, take, refl, sym, ap, ◌∙◌, subst, arith, Option, Some, None}
+use Rattle.std.specs.Prelude.{slice_get}
 use Rattle.std.specs.Option.{option_map, option_and_then}
 use Rattle.std.proofs.lemmas.Option.{none-some, same_Some, slice_get-map}
 use Rattle.elf_model.specs.Objects.{ObjectParts}
 use Rattle.elf_model.proofs.Elements.{contains_at}
-use Rattle.thumb_instr.specs.declared.instructions.Instr.{Instr}
-use Rattle.thumb_encode.specs.declared.codes.Code.{Code}
-use Rattle.thumb_encode.specs.Encoding.{width_of}
 use Rattle.thumb_table.specs.Parts.{CodeBytes}
 use Rattle.reloc_places.specs.Relocations.{reloc_at}
 use Rattle.flow_recover.specs.declared.flows.Point.{Point}
@@ -17,16 +14,14 @@ use Rattle.liveness.specs.declared.boundary.Boundary.{Boundary}
 use Rattle.seq_core.specs.declared.steps.Step.{Step}
 use Rattle.seq_core.specs.Places.{PlacedParts, LayoutParts}
 use Rattle.seq_core.specs.Denoted.{Spots, Reached, StepsStand}
-use Rattle.hardened_form.specs.Places.{UnitPlace, Places}
-use Rattle.branch_layout.specs.Copies.{copies_of, bytes_before}
-use Rattle.branch_layout.specs.Placings.{landing_of}
+use Rattle.hardened_form.specs.Places.{UnitPlace}
+use Rattle.branch_layout.specs.Copies.{copies_of}
 use Rattle.branch_layout.specs.Goals.{start_of, word_of}
 use Rattle.branch_layout.specs.Laid.{laid_place, laid_places}
-use Rattle.emit_object.specs.UnitCopies.{Copy, copies_from, unit_copies, carries}
+use Rattle.emit_object.specs.UnitCopies.{Copy, unit_copies}
 use Rattle.emit_object.specs.Emitting.{CanEmit}
 use Rattle.point_units.specs.Units.{LeadsTo, IsUnitOf}
 use Rattle.point_units.specs.Units.LeadsTo.{by_branch, by_call}
-use Rattle.sim_relation.specs.Sequences.{PlacedStep}
 use Rattle.sim_relation.specs.Standing.{Linking, StepStands, WordStands, Stands}
 use Rattle.sim_relation.specs.Doing.{MayLink}
 use Rattle.unit_work.specs.Work.{placed_step, sequence_of, AreOnCarriers}
@@ -45,7 +40,6 @@ module _ (laws : NumberLaws) (o h : ObjectParts) (f : FlowParts) (b : Boundary) 
     (k : ℕ) (x : Point) (u : PlacedParts) (there : slice_get f.points k ≡ Some x) (laid : slice_get l.units k ≡ Some u) (is : IsUnitOf o f b c x u.unit)
     (code : CodeBytes) (start : ℕ) (link : Linking) (aligned : start % 4 ≡ 0) (end : start + 2 ^ 20 ≤ 2 ^ 32) (may : MayLink o f (laid_places l) start x link)
     (stands : Stands code start link (laid_places l) x (laid_place u) (sequence_of h l u is.scratch)) where
-
   -- the target is where its unit begins
   target_there : (to : ℕ) → u.unit.reloc ≡ None → option_and_then (start_of (laid_places l)) u.unit.target ≡ Some to → link.target ≡ start + to
   target_there to none e =
@@ -105,10 +99,10 @@ module _ (laws : NumberLaws) (o h : ObjectParts) (f : FlowParts) (b : Boundary) 
   unit_stands fits =
       let count = coded o f l can k u laid is.short in
       let all : AllCopies (λ at t d. Stood code p (start + at) (bytes d) (link_step t)) u.start (copies_of u.unit.seq.steps) u.codes =
-          each_copy (λ at t d. Stood code p (start + at) (bytes d) (link_step t)) u.start (copies_of u.unit.seq.steps) u.codes (omega arith)
-          (λ j y e. let o_f = of o f l can k u laid is.short j y e in copy_stood j y e (fit_at c x.instr ((laid_place u).back ≡ (laid_place u).end) u.unit.seq.steps fits o_f.index y.step o_f.there)) in
+      each_copy (λ at t d. Stood code p (start + at) (bytes d) (link_step t)) u.start (copies_of u.unit.seq.steps) u.codes (omega arith)
+      (λ j y e. let o_f = of o f l can k u laid is.short j y e in copy_stood j y e (fit_at c x.instr ((laid_place u).back ≡ (laid_place u).end) u.unit.seq.steps fits o_f.index y.step o_f.there)) in
       let front = front_copies (λ at t d. Stood code p (start + at) (bytes d) (link_step t)) u.start u.unit.seq.landing u.unit.seq.steps u.codes all in
       let stand = steps_stand code p start c link_step (λ at t d. Stood code p (start + at) (bytes d) (link_step t)) (λ at t d s. s) first u.start u.codes
-          (λ j s e. let m = (fit_at c x.instr ((laid_place u).back ≡ (laid_place u).end) first (fit_front c x.instr ((laid_place u).back ≡ (laid_place u).end) u.unit.seq.landing u.unit.seq.steps fits) j s e).many in (m, m)) front in
+      (λ j s e. let m = (fit_at c x.instr ((laid_place u).back ≡ (laid_place u).end) first (fit_front c x.instr ((laid_place u).back ≡ (laid_place u).end) u.unit.seq.landing u.unit.seq.steps fits) j s e).many in (m, m)) front in
       let back : after_steps first u.start u.codes ≡ (laid_place u).back = steps_end first u.start u.codes ∙ sym (back_is o f l can k u laid is.short) in
       subst (λ (n : ℕ). StepsStand code c p (map link_step first) (start + u.start) (start + n)) back stand
