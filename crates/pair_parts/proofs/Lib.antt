@@ -9,3 +9,6 @@ pub mod SpareFacts
 pub mod KeptRelocs
 pub mod BackFacts
 pub mod MadePaired
+pub mod UnitBytes
+pub mod OldStretches
+pub mod Growth
