@@ -1,11 +1,10 @@
 -- Relocations stand on the copies that carry that of their point, and on no others.
 use Rattle.std.proofs.Common.{◌≡◌, ◌≤◌, ◌<◌, ℕ, ◌+◌, Bool, true, false, List, length, map, filter, refl, sym, ap, ◌∙◌, subst, inl, inr, arith, Option, Some, None}
-use Rattle.std.specs.Prelude.{slice_get, Contains, ◌&&◌, not, is_some, IsTrue}
+use Rattle.std.specs.Prelude.{slice_get, Contains, ◌&&◌, not, is_some}
 use Rattle.std.specs.Option.{option_map}
 use Rattle.std.specs.List.{zip}
 use Rattle.std.proofs.lemmas.Bool.{and_parts, cases_Bool, both_ways, ltb-true}
 use Rattle.std.proofs.lemmas.Option.{none-some, same_Some, slice_get-map}
-use Rattle.elf_model.specs.declared.objects.Section.{Section}
 use Rattle.elf_model.specs.declared.objects.Reloc.{Reloc}
 use Rattle.elf_model.specs.declared.objects.Symbol.{Symbol}
 use Rattle.elf_model.specs.declared.objects.Home.{Home}
@@ -17,25 +16,22 @@ use Rattle.reloc_places.specs.Relocations.{reloc_at, is_in_code}
 use Rattle.seq_core.specs.Places.{PlacedParts, LayoutParts}
 use Rattle.thumb_encode.specs.Encoding.{width_of}
 use Rattle.flow_recover.specs.declared.flows.Point.{Point}
-use Rattle.flow_recover.specs.declared.flows.PoolWord.{PoolWord}
 use Rattle.flow_recover.specs.Flows.{FlowParts}
 use Rattle.flow_recover.specs.WholeFlows.{IsFlow}
 use Rattle.flow_recover.proofs.RightRelocs.{reloc_there}
-use Rattle.hardened_form.specs.Places.{UnitPlace, Places}
+use Rattle.hardened_form.specs.Places.{UnitPlace}
 use Rattle.hardened_form.specs.Standing.{units}
 use Rattle.hardened_form.specs.Turns.{Target, turns_by, is_turned, is_direct, old_target, IsTarget, Stays, of_point}
-use Rattle.hardened_form.specs.Symbols.{Lists}
 use Rattle.hardened_form.specs.Carriers.{Carrier, IsCarrier, kind_on}
 use Rattle.hardened_form.specs.Relocs.{first_target, new_number, IsNewSymbol, same, own, StandsFor, IsWordOf, in_pool, in_island, IsNewReloc, of_data, of_step, of_word}
 use Rattle.hardened_form.specs.HardenedForms.{IsHardenedForm}
-use Rattle.branch_layout.specs.Copies.{bytes_of}
 use Rattle.branch_layout.specs.Laid.{laid_place, laid_places}
 use Rattle.branch_layout.proofs.StepCopies.{bytes_least}
 use Rattle.branch_layout.proofs.WithinFacts.{map_at, zip_at, zip_parts}
 use Rattle.emit_object.specs.UnitCopies.{Copy, unit_copies, carries, copy_carries, carrier, carriers_of, all_carriers}
 use Rattle.emit_object.specs.Emitting.{CanEmit}
 use Rattle.unit_work.specs.Work.{AreOnCarriers}
-use Rattle.pair_parts.proofs.PointFacts.{IsAtPoint, at_point, in_code, reloc_at_is, reloc_found, word_reloc}
+use Rattle.pair_parts.proofs.PointFacts.{at_point, in_code, reloc_at_is, reloc_found, word_reloc}
 use Rattle.pair_parts.proofs.LaidUnits.{laid_unit, copy_inside, one_copy}
 use Rattle.pair_parts.proofs.PlaceFacts.{point_at, one_unit, no_word_in}
 

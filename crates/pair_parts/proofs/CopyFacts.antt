@@ -1,16 +1,15 @@
 -- The copies of a unit's steps: where they stand, and what their codes are read as.
-use Rattle.std.proofs.Common.{◌≡◌, ◌≤◌, ◌<◌, ℕ, zero, suc, ◌+◌, Bool, true, false, cond, List, [], ◌∷◌, length, map, take, refl, sym, ap, ◌∙◌, subst, inl, inr, arith, Option, Some, None, Ok, Err}
+use Rattle.std.proofs.Common.{◌≡◌, ◌≤◌, ℕ, zero, suc, ◌+◌, Bool, true, false, cond, List, [], ◌∷◌, length, map, take, refl, sym, ap, ◌∙◌, subst, inl, inr, arith, Some, None, Ok, Err}
 use Rattle.std.specs.Prelude.{slice_get, Contains}
 use Rattle.std.proofs.lemmas.Option.{none-some, same_Some}
 use Rattle.std.proofs.lemmas.List.Sums.{sum_by-cons}
 use Rattle.elf_model.specs.Fields.{half_at}
-use Rattle.elf_model.specs.Objects.{ObjectParts}
 use Rattle.elf_model.specs.Ranges.{is_long, length_at}
-use Rattle.elf_model.proofs.Elements.{contains_cases, contains_none, contains_later, contains_here, place_of}
+use Rattle.elf_model.proofs.Elements.{contains_cases, contains_none, contains_later, contains_here}
 use Rattle.thumb_instr.specs.declared.instructions.Instr.{Instr}
 use Rattle.thumb_instr.specs.declared.refusals.BadInstr.TheVariants.{Unknown}
 use Rattle.thumb_instr.specs.declared.refusals.ItPlace.TheVariants.{Outside}
-use Rattle.thumb_instr.specs.Rows.{Answer, decode, decode_given}
+use Rattle.thumb_instr.specs.Rows.{decode, decode_given}
 use Rattle.thumb_encode.specs.declared.codes.Code.{Code}
 use Rattle.thumb_encode.specs.declared.codes.Code.TheVariants as code
 use Rattle.thumb_encode.specs.declared.codes.Width.{Width}

@@ -1,5 +1,5 @@
 -- A point's relocation stays: a copy of its unit carries it.
-use Rattle.std.proofs.Common.{◌≡◌, ◌≤◌, ◌<◌, ℕ, ◌+◌, Bool, true, false, cond, List, [], ◌∷◌, map, filter, refl, sym, ap, ◌∙◌, subst, inl, inr, arith, Option, Some, None, Ok, Err}
+use Rattle.std.proofs.Common.{◌≡◌, ◌≤◌, ℕ, ◌+◌, Bool, true, false, cond, List, [], ◌∷◌, filter, refl, sym, ap, ◌∙◌, subst, arith, Option, Some, None, Ok, Err}
 use Rattle.std.specs.Prelude.{slice_get, Contains, ◌==◌, ◌&&◌, ◌||◌, not}
 use Rattle.std.specs.Option.{option_map}
 use Rattle.std.proofs.lemmas.Bool.{both_ways}
@@ -24,10 +24,9 @@ use Rattle.thumb_instr.specs.Blocks.{place_in_block}
 use Rattle.thumb_instr.specs.Numbers.{has_number, is_taken}
 use Rattle.thumb_instr.specs.Rows.{is_wide, decode, decode_given}
 use Rattle.thumb_instr.specs.Sets.{reads_of, writes_of}
-use Rattle.thumb_instr.specs.Idempotence.{KeepsSources, fills_in}
 use Rattle.thumb_instr.proofs.Numbers.{answers_taken}
 use Rattle.reloc_places.specs.Starts.{bytes_of, decoded_at, IsDataWord}
-use Rattle.reloc_places.specs.Relocations.{is_bl, is_b, is_mov, fits_kind, IsPlace, in_data, in_code, on_instr, IsRight}
+use Rattle.reloc_places.specs.Relocations.{is_bl, is_b, is_mov, fits_kind, IsPlace, in_data, in_code, on_instr}
 use Rattle.seq_core.specs.declared.classes.Class.{Class}
 use Rattle.seq_core.specs.declared.classes.Class.TheVariants as class
 use Rattle.seq_core.specs.declared.steps.Step.{Step}

@@ -1,5 +1,5 @@
 -- The units of a layout as sequences of the hardened object.
-use Rattle.std.proofs.Common.{◌≡◌, ◌≤◌, ◌<◌, ℕ, ◌+◌, List, [], ◌∷◌, length, map, refl, sym, ap, ◌∙◌, subst, arith, Option, Some, None}
+use Rattle.std.proofs.Common.{◌≡◌, ◌<◌, ℕ, ◌+◌, List, [], ◌∷◌, length, map, refl, sym, ap, ◌∙◌, subst, arith, Option, Some}
 use Rattle.std.specs.Prelude.{slice_get, Contains}
 use Rattle.std.specs.Option.{option_map}
 use Rattle.std.specs.List.{zip}
@@ -8,7 +8,7 @@ use Rattle.std.proofs.lemmas.List.{length-map}
 use Rattle.std.proofs.lemmas.List.Sums.{sum_by-cons}
 use Rattle.std.proofs.lemmas.Slice.Zip.{AllZip-long}
 use Rattle.elf_model.specs.Objects.{ObjectParts}
-use Rattle.elf_model.proofs.Elements.{element_at, place_of, contains_at, contains_here, contains_later}
+use Rattle.elf_model.proofs.Elements.{element_at, place_of, contains_here, contains_later}
 use Rattle.code_ranges.proofs.InOrder.{same_at_each}
 use Rattle.thumb_encode.specs.declared.codes.Code.{Code}
 use Rattle.thumb_encode.specs.declared.codes.Width.{Width}

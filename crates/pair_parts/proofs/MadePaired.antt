@@ -1,6 +1,6 @@
 -- What is made of an object by way of units and their layout is paired with it.
-use Rattle.std.proofs.Common.{◌≡◌, ◌≤◌, ◌<◌, ℕ, zero, suc, ◌+◌, ◌*◌, true, List, [], ◌∷◌, length, map, filter, refl, sym, ap, ◌∙◌, subst, inl, inr, arith, Option, Some, None}
-use Rattle.std.specs.Prelude.{slice_get, slice_index, Contains, IsTrue}
+use Rattle.std.proofs.Common.{◌≡◌, ◌≤◌, ◌<◌, ℕ, zero, suc, ◌+◌, ◌*◌, true, List, [], ◌∷◌, length, filter, refl, sym, ap, ◌∙◌, subst, inl, inr, arith, Some}
+use Rattle.std.specs.Prelude.{slice_get, slice_index, Contains}
 use Rattle.std.specs.Option.{option_map}
 use Rattle.std.proofs.lemmas.Option.{none-some, same_Some, slice_get-map}
 use Rattle.elf_model.specs.declared.objects.Section.{Section}
@@ -13,20 +13,19 @@ use Rattle.flow_recover.specs.WholeFlows.{IsFlow}
 use Rattle.hardened_form.specs.Places.{UnitPlace}
 use Rattle.hardened_form.specs.Carriers.{Carrier}
 use Rattle.hardened_form.specs.Symbols.{size_of}
-use Rattle.branch_layout.specs.Copies.{copies_of}
 use Rattle.branch_layout.specs.Laid.{laid_place, laid_places}
 use Rattle.branch_layout.proofs.WithinFacts.{map_at}
 use Rattle.emit_object.specs.UnitCopies.{unit_copies, copy_carries, carrier, carriers_of, all_carriers}
-use Rattle.emit_object.specs.Emitting.{unit_of, units_of}
+use Rattle.emit_object.specs.Emitting.{unit_of}
 use Rattle.point_units.specs.Units.{IsUnitOf}
 use Rattle.sim_relation.specs.Accepted.{Accepted, boundaries}
 use Rattle.sim_relation.specs.Sequences.{Sequence, IsSequence}
 use Rattle.sim_relation.specs.Doing.{IsDone}
 use Rattle.sim_relation.specs.Pairs.{Certificate, HaveGrown, AreCarried, AreKept, AreDone, Paired, everywhere}
 use Rattle.unit_work.specs.Work.{placed_step, sequence_of, UnitsWork}
-use Rattle.pair_parts.specs.Made.{IsMade, count_of, IsFactor, AreObjects, MadeArePaired}
+use Rattle.pair_parts.specs.Made.{IsMade, IsFactor, AreObjects, MadeArePaired}
 use Rattle.pair_parts.proofs.LaidUnits.{laid_unit, many_codes, is_sequence, short_sequence}
-use Rattle.pair_parts.proofs.PlaceFacts.{point_at, unit_at, sized, code_section, between, next_begins}
+use Rattle.pair_parts.proofs.PlaceFacts.{point_at, sized, code_section, between, next_begins}
 use Rattle.pair_parts.proofs.CarrierFacts.{on_carriers}
 use Rattle.pair_parts.proofs.SequenceFacts.{sequence_stands, few_copies}
 use Rattle.pair_parts.proofs.SpareFacts.{spare, flags_dead}

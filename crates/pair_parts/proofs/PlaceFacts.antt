@@ -1,12 +1,12 @@
 -- Where the units of points stand in the sections of a hardened object.
-use Rattle.std.proofs.Common.{◌≡◌, ◌≤◌, ◌<◌, ℕ, ◌+◌, ◌%◌, Bool, true, false, cond, List, [], ◌∷◌, length, map, refl, sym, ap, ◌∙◌, subst, ◌⊎◌, inl, inr, arith, Option, Some, None, eq-eqb}
+use Rattle.std.proofs.Common.{◌≡◌, ◌≤◌, ◌<◌, ℕ, ◌+◌, Bool, true, false, cond, List, [], ◌∷◌, length, map, refl, sym, ap, ◌∙◌, subst, ◌⊎◌, inl, inr, arith, Some, eq-eqb}
 use Rattle.std.specs.Prelude.{slice_get, slice_index, Contains, ◌==◌, nat_lt}
 use Rattle.std.specs.Option.{option_map}
 use Rattle.std.specs.List.{zip}
 use Rattle.std.specs.declared.cmp.Ordering.TheVariants.{Less, Equal, Greater}
 use Rattle.std.specs.Ordering.{nat_cmp, ordering_then}
 use Rattle.std.proofs.lemmas.Bool.{both_ways, eqb-true, cases_lt, lt-ltb, ltb-true}
-use Rattle.std.proofs.lemmas.Option.{same_Some, slice_get-map, slice_get_within, get_or_from_slice_get}
+use Rattle.std.proofs.lemmas.Option.{slice_get-map, slice_get_within, get_or_from_slice_get}
 use Rattle.std.proofs.lemmas.List.{length-map, get_or_past}
 use Rattle.std.proofs.lemmas.List.Elements.{Contains-append_left, Contains-append_right, Contains-append_cases}
 use Rattle.elf_model.specs.declared.objects.Section.{Section}
@@ -28,7 +28,7 @@ use Rattle.hardened_form.specs.Items.{Item, item_of_unit, item_of_word, old_plac
 use Rattle.hardened_form.specs.Standing.{old_points, old_words}
 use Rattle.hardened_form.specs.HardenedForms.{IsHardenedForm}
 use Rattle.hardened_form.proofs.OneList.{items_once}
-use Rattle.branch_layout.specs.Placings.{unit_point, word_point, places_of, IsPlacing}
+use Rattle.branch_layout.specs.Placings.{unit_point, word_point, IsPlacing}
 use Rattle.branch_layout.specs.Laid.{laid_place, laid_places}
 use Rattle.branch_layout.proofs.WithinFacts.{IsEven, IsBetween, map_at, zip_at, zip_parts, stands_between, item_is_even}
 use Rattle.emit_object.specs.UnitCopies.{all_carriers}

@@ -1,5 +1,5 @@
 -- What stands at a point of a flow, and where its code ends.
-use Rattle.std.proofs.Common.{◌≡◌, ◌<◌, ◌≤◌, ℕ, ◌+◌, List, Bool, true, false, cond, refl, sym, ap, ◌∙◌, subst, inl, inr, arith, Option, Some, None, Ok, Err}
+use Rattle.std.proofs.Common.{◌≡◌, ◌<◌, ◌≤◌, ℕ, ◌+◌, List, Bool, true, false, cond, refl, sym, ap, ◌∙◌, subst, inl, inr, arith, Some, Ok, Err}
 use Rattle.std.specs.Prelude.{slice_get, Contains, ◌==◌, ◌&&◌}
 use Rattle.std.proofs.lemmas.Bool.{leb-true, and_parts, eqb-true, cases_order}
 use Rattle.std.proofs.lemmas.List.Quantifiers.{position-Some}
@@ -13,24 +13,21 @@ use Rattle.elf_model.specs.Constants.{progbits}
 use Rattle.elf_model.specs.Fields.{half_at}
 use Rattle.elf_model.specs.Objects.{ObjectParts, is_code, is_alloc, is_exec}
 use Rattle.elf_model.specs.Ranges.{IsRange, is_long, is_whole, length_at}
-use Rattle.elf_model.proofs.Elements.{element_at, place_of, contains_at}
+use Rattle.elf_model.proofs.Elements.{element_at}
 use Rattle.code_ranges.specs.Spans.{kind_at}
 use Rattle.code_ranges.proofs.KindFacts.{kind_here}
 use Rattle.code_ranges.proofs.RangeOrder.{range_ends}
 use Rattle.thumb_instr.specs.declared.instructions.Instr.{Instr}
-use Rattle.thumb_instr.specs.declared.instructions.Instr.TheVariants as instr
 use Rattle.thumb_instr.specs.declared.refusals.BadInstr.TheVariants.{Unknown}
-use Rattle.thumb_instr.specs.Fields.{LiteralFields}
-use Rattle.thumb_instr.specs.Rows.{Answer}
 use Rattle.reloc_places.specs.Starts.{bytes_of, IsCodeStart, IsDataWord, decoded_at, instr_at}
 use Rattle.reloc_places.specs.Relocations.{IsRight, reloc_at}
-use Rattle.reloc_places.proofs.StartFacts.{start_before, start_behind, starts_apart, length_least}
+use Rattle.reloc_places.proofs.StartFacts.{start_behind, starts_apart, length_least}
 use Rattle.flow_recover.specs.declared.flows.Point.{Point}
 use Rattle.flow_recover.specs.declared.flows.PoolWord.{PoolWord}
 use Rattle.flow_recover.specs.Flows.{FlowParts}
-use Rattle.flow_recover.specs.FlowFaults.{literal_place, no_word, relocation}
+use Rattle.flow_recover.specs.FlowFaults.{no_word, relocation}
 use Rattle.flow_recover.specs.Points.{end_of}
-use Rattle.flow_recover.specs.WholeFlows.{IsPoint, IsFlow}
+use Rattle.flow_recover.specs.WholeFlows.{IsFlow}
 use Rattle.hardened_form.specs.Sections.{IsNewSection}
 
 pub decoded_whole : (bytes : List ℕ) (end x it : ℕ) (i : Instr) → instr_at bytes end x it ≡ Ok i → (x + length_at bytes x ≤ end) × (decoded_at bytes x it ≡ Ok i)

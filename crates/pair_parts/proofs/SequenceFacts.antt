@@ -2,28 +2,24 @@
 use Rattle.std.proofs.Common.{◌≡◌, ◌≤◌, ℕ, zero, suc, ◌+◌, ◌*◌, Bool, true, false, List, [], ◌∷◌, ◌++◌, length, replicate, refl, sym, ap, ◌∙◌, subst, inl, inr, arith, Option, Some, None}
 use Rattle.std.specs.Prelude.{Contains, is_none, ◌&&◌, ⊤}
 use Rattle.std.proofs.lemmas.Bool.{both_ways}
-use Rattle.std.proofs.lemmas.Option.{none-some}
 use Rattle.std.proofs.lemmas.List.{length-append, length-replicate}
 use Rattle.std.proofs.lemmas.List.Elements.{Contains-append_left, Contains-append_right}
 use Rattle.elf_model.specs.Objects.{ObjectParts}
-use Rattle.elf_model.proofs.Elements.{contains_cases, contains_none, contains_here, contains_later}
+use Rattle.elf_model.proofs.Elements.{contains_cases, contains_none, contains_here}
 use Rattle.thumb_instr.specs.declared.conditions.Cond.{Cond}
 use Rattle.thumb_instr.specs.declared.instructions.Instr.{Instr}
 use Rattle.thumb_instr.specs.declared.instructions.Instr.TheVariants as instr
 use Rattle.flow_recover.specs.declared.flows.Point.{Point}
-use Rattle.flow_recover.specs.Flows.{FlowParts}
-use Rattle.liveness.specs.declared.boundary.Boundary.{Boundary}
 use Rattle.seq_core.specs.declared.classes.Class.{Class}
 use Rattle.seq_core.specs.declared.classes.Class.TheVariants as class
 use Rattle.seq_core.specs.declared.steps.Step.{Step}
-use Rattle.seq_core.specs.declared.units.Unit.{Unit as SeqUnit}
 use Rattle.seq_core.specs.Series.{Series}
 use Rattle.seq_core.specs.Straight.{flagged, written_back}
 use Rattle.seq_core.specs.Built.{through_one, through_two, as_steps}
 use Rattle.seq_core.specs.Replaced.{base_copied, long_summed, moved_list, popped, stack_stepped, register_called, zero_branched, replaced}
 use Rattle.it_expand.specs.Expanded.{guard_of}
 use Rattle.branch_layout.specs.Copies.{copies_of}
-use Rattle.point_units.specs.Units.{is_call, never_returns, landed, under, left_instr, IsSequenceOf, of_it, of_instr, IsUnitOf}
+use Rattle.point_units.specs.Units.{is_call, never_returns, landed, under, left_instr, IsSequenceOf, of_it, of_instr}
 
 -- EACH STEP STANDS AS OFTEN
 
