@@ -1,5 +1,5 @@
 -- Each copy that carries a relocation has a code of four bytes, with the number that is left.
-use Rattle.std.proofs.Common.{ℤ, pos, negsuc, ◌-ℤ◌, ◌≡◌, ◌≤◌, ◌<◌, ℕ, ◌+◌, ◌-◌, ◌^◌, Bool, true, false, cond, List, length, map, filter, refl, sym, ap, ◌∙◌, subst, arith, inl, inr, Option, Some, None, Ok}
+use Rattle.std.proofs.Common.{ℤ, negsuc, ◌≡◌, ◌≤◌, ℕ, ◌+◌, ◌-◌, ◌^◌, Bool, true, false, cond, List, map, filter, refl, sym, ap, ◌∙◌, subst, arith, inl, inr, Option, Some, None, Ok}
 use Rattle.std.specs.Prelude.{slice_get, Contains, is_some, ◌||◌}
 use Rattle.std.specs.Int.{w32, cast_unsigned}
 use Rattle.std.specs.Option.{option_map, option_map_or, option_and_then}
@@ -19,7 +19,7 @@ use Rattle.thumb_instr.specs.declared.instructions.Instr.{Instr}
 use Rattle.thumb_instr.specs.declared.instructions.Instr.TheVariants as instr
 use Rattle.thumb_instr.specs.declared.refusals.ItPlace.TheVariants.{Outside}
 use Rattle.thumb_instr.specs.Fields.{BranchFields, CallFields, HalfFields}
-use Rattle.thumb_instr.specs.Rows.{is_wide, decode, decode_given}
+use Rattle.thumb_instr.specs.Rows.{decode, decode_given}
 use Rattle.thumb_encode.specs.declared.codes.Width.{Width}
 use Rattle.thumb_encode.specs.declared.codes.Width.TheVariants.{Half, Full}
 use Rattle.thumb_encode.specs.declared.codes.Code.{Code}
@@ -34,21 +34,20 @@ use Rattle.seq_core.specs.declared.units.Unit.{Unit as SeqUnit}
 use Rattle.seq_core.specs.Places.{PlacedParts, LayoutParts}
 use Rattle.reloc_places.specs.Starts.{bytes_of, decoded_at}
 use Rattle.reloc_places.specs.Relocations.{may_fail, is_jump, is_bl, is_b, is_mov, fits_kind, number_in}
-use Rattle.flow_recover.specs.declared.flows.Point.{Point}
 use Rattle.flow_recover.specs.Flows.{FlowParts}
 use Rattle.hardened_form.specs.Places.{UnitPlace, Places}
 use Rattle.hardened_form.specs.Turns.{zero_addend, new_addend}
 use Rattle.hardened_form.specs.Carriers.{Carrier, kind_on, IsCarried, AreCarried}
 use Rattle.branch_layout.specs.Copies.{bytes_of as bytes_of_width}
 use Rattle.branch_layout.specs.Widths.{IsShortest, IsLong}
-use Rattle.branch_layout.specs.Goals.{aimed, offset_to, target_of, goal_of, placed_instr}
+use Rattle.branch_layout.specs.Goals.{aimed, offset_to, goal_of, placed_instr}
 use Rattle.branch_layout.specs.Laid.{laid_place, laid_places}
 use Rattle.branch_layout.proofs.WithinFacts.{zip_parts, map_at}
 use Rattle.branch_layout.proofs.StepCopies.{of_step}
 use Rattle.emit_object.specs.UnitCopies.{Copy, unit_copies, is_half, is_target, carries, copy_carries, carrier, carriers_of, all_carriers, CodeAt, HaveCodes}
 use Rattle.emit_object.specs.Emitting.{TakesReloc, CanEmit}
 use Rattle.emit_object.proofs.SitesAre.{kind_placed}
-use Rattle.emit_object.proofs.LaidUnits.{copy_in, IsCopyIn}
+use Rattle.emit_object.proofs.LaidUnits.{copy_in}
 
 -- CODES OF FOUR BYTES
 

@@ -1,6 +1,6 @@
 -- The relocations of a hardened object are relocations of an object.
-use Rattle.std.proofs.Common.{◌≡◌, ◌≤◌, ◌<◌, ◌⊎◌, inl, inr, ℕ, zero, suc, ◌+◌, Bool, true, false, cond, List, [], ◌∷◌, ◌++◌, length, map, filter, take, get_or, refl, sym, ap, ◌∙◌, subst, arith, Option, Some, None}
-use Rattle.std.specs.Prelude.{slice_get, slice_index, Contains, IsTrue, IsPermutation, count_by, is_some, not, nat_le, nat_lt, nat_eq, codes, ◌==◌, ◌&&◌, ◌||◌}
+use Rattle.std.proofs.Common.{◌≡◌, ◌≤◌, ◌<◌, inl, inr, ℕ, zero, suc, ◌+◌, Bool, true, false, cond, List, [], ◌∷◌, ◌++◌, length, map, filter, take, get_or, refl, sym, ap, ◌∙◌, subst, arith, Option, Some, None}
+use Rattle.std.specs.Prelude.{slice_get, Contains, IsTrue, IsPermutation, count_by, is_some, not, nat_le, nat_lt, nat_eq, codes, ◌==◌, ◌&&◌, ◌||◌}
 use Rattle.std.specs.List.{list_all, starts_with, zip}
 use Rattle.std.proofs.lemmas.Bool.{true≢false, and_from, and_parts, eqb-true, leb-true, lt-ltb}
 use Rattle.std.proofs.lemmas.Bool.Decides.{nat_tests}
@@ -19,7 +19,7 @@ use Rattle.elf_model.specs.declared.objects.Home.TheVariants as homes
 use Rattle.elf_model.specs.declared.objects.MapRow.{MapRow}
 use Rattle.elf_model.specs.Constants.{progbits, nobits, local, notype, func}
 use Rattle.elf_model.specs.Fields.{same_name}
-use Rattle.elf_model.specs.Objects.{ObjectParts, is_object, is_code, is_alloc, is_exec, even, is_within, code_width, reloc_code, place_width, is_kind, is_placed, is_reloc}
+use Rattle.elf_model.specs.Objects.{ObjectParts, is_object, is_code, is_alloc, is_exec, even, is_within, reloc_code, place_width, is_kind, is_placed, is_reloc}
 use Rattle.elf_model.specs.Ranges.{is_mapping, is_mapping_of}
 use Rattle.elf_model.proofs.Elements.{element_at, contains_at}
 use Rattle.elf_model.proofs.Lists.{count_cons}
@@ -30,12 +30,11 @@ use Rattle.thumb_encode.specs.declared.codes.Width.{Width}
 use Rattle.reloc_places.specs.Starts.{bytes_of}
 use Rattle.reloc_places.specs.Relocations.{may_fail, is_in_code, addend}
 use Rattle.reloc_places.proofs.StartFacts.{any_limit}
-use Rattle.flow_recover.specs.declared.flows.PoolWord.{PoolWord}
 use Rattle.flow_recover.specs.Flows.{FlowParts}
 use Rattle.flow_recover.specs.Points.{PointsRise}
 use Rattle.flow_recover.specs.WholeFlows.{IsFlow}
 use Rattle.flow_recover.proofs.FlowPoints.{points_rise}
-use Rattle.seq_core.specs.Places.{PlacedParts, LayoutParts}
+use Rattle.seq_core.specs.Places.{LayoutParts}
 use Rattle.hardened_form.specs.Carriers.{kind_on}
 use Rattle.hardened_form.specs.Items.{Item}
 use Rattle.hardened_form.specs.Standing.{new_place}
@@ -43,11 +42,11 @@ use Rattle.hardened_form.specs.Sections.{AreSections}
 use Rattle.hardened_form.specs.Turns.{is_turned, is_direct, turns_by, zero_addend}
 use Rattle.hardened_form.specs.MappingSymbols.{mapping_symbol}
 use Rattle.hardened_form.specs.Symbols.{Lists, section_kind, moved, stays, stays_in, is_shared, target_symbol, new_symbols}
-use Rattle.hardened_form.specs.Relocs.{IsNewSymbol, same, own, first_target, first_shared, new_number}
+use Rattle.hardened_form.specs.Relocs.{IsNewSymbol, same, own, first_shared}
 use Rattle.branch_layout.specs.Copies.{bytes_of as bytes_of_width}
 use Rattle.emit_object.specs.declared.reloc_sites.Site.{Site}
 use Rattle.emit_object.specs.FirstItems.{AreItemsOf}
-use Rattle.emit_object.specs.Laid.{HasCode, HasSizes}
+use Rattle.emit_object.specs.Laid.{HasSizes}
 use Rattle.emit_object.specs.Lasting.{has_data}
 use Rattle.emit_object.specs.Emitting.{CanEmit}
 use Rattle.emit_object.specs.Numbering.{AreNewSymbols}

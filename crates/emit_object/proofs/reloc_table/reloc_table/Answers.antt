@@ -1,15 +1,12 @@
-use Rattle.std.proofs.Common.{◌≡◌, ◌∙◌, List, get_or, sym, ap, subst}
+use Rattle.std.proofs.Common.{List, get_or, sym, subst}
 use Rattle.std.specs.Prelude.{IsPermutation}
 use Rattle.std.specs.List.Sorted.{IsSortedByKey}
 use Rattle.std.proofs.lemmas.Option.{slice_get-get_or}
-use Rattle.elf_model.specs.declared.objects.Reloc.{Reloc}
-use Rattle.elf_model.specs.Objects.{rise}
 use Rattle.code_ranges.specs.Spans.{place_cmp}
 use Rattle.emit_object.specs.declared.reloc_sites.Site.{Site}
 use Rattle.emit_object.specs.RelocSites.{site_place, all_sites}
 use Rattle.emit_object.proofs.FlowGives.{readable}
 use Rattle.emit_object.proofs.LaidUnits.{small}
-use Rattle.emit_object.proofs.CarriedFacts.{are_carried}
 use Rattle.emit_object.proofs.SoundRelocs.{sound_relocs}
 use Rattle.emit_object.proofs.SitesAre.{in_order, are_relocs}
 use Rattle.emit_object.proofs.reloc_table.reloc_table.Goals as goal
