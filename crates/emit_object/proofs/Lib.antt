@@ -17,6 +17,13 @@ pub mod SoundSymbols
 pub mod WholeSymbols
 pub mod FewSymbols
 pub mod NewRelocFacts
+pub mod CodeReads
+pub mod PutFacts
+pub mod StandApart
+pub mod FlowSections
+pub mod PieceFacts
+pub mod NewCodeFacts
+pub mod WordPieces
 pub mod SiteLists
 pub mod SiteOrder
 pub mod MadeFacts

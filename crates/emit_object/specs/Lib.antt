@@ -15,6 +15,9 @@ pub mod NewSymbolNumbers
 pub mod NewSections
 pub mod UnitCopies
 pub mod Emitting
+pub mod CodePieces
+pub mod CodeBytes
+pub mod NewCode
 pub mod SmallUnits
 pub mod RelocSites
 pub mod SitesInOrder

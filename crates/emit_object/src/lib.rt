@@ -1,6 +1,8 @@
 //! The hardened object: tables and bytes for a layout.
 #![tactic(auto)]
 
+mod code_bytes;
+mod code_pieces;
 mod first_items;
 mod lasting;
 mod map_section;
@@ -20,3 +22,5 @@ mod targets;
 mod turns;
 mod word_numbers;
 mod word_places;
+
+pub use turns::is_turned;
