@@ -1,17 +1,15 @@
 -- The units of a layout: their points, their stretches, and the copies in them.
-use Rattle.std.proofs.Common.{◌≡◌, ◌≤◌, ◌<◌, ◌^◌, ℕ, zero, suc, ◌+◌, ◌*◌, Bool, true, false, List, [], ◌∷◌, length, map, take, refl, sym, ap, ◌∙◌, subst, arith, Option, Some, None}
-use Rattle.std.specs.Prelude.{slice_get, Contains, All}
+use Rattle.std.proofs.Common.{◌≡◌, ◌≤◌, ℕ, ◌+◌, ◌*◌, List, [], ◌∷◌, length, sym, ap, ◌∙◌, subst, arith, Some}
+use Rattle.std.specs.Prelude.{slice_get, Contains}
 use Rattle.std.specs.Option.{option_map}
-use Rattle.std.specs.List.{AllZip, zip}
+use Rattle.std.specs.List.{zip}
 use Rattle.std.proofs.lemmas.Option.{same_Some, slice_get_within, slice_get-map}
-use Rattle.std.proofs.lemmas.List.{length-map}
 use Rattle.std.proofs.lemmas.List.Sums.{sum_by-cons}
 use Rattle.std.proofs.lemmas.Slice.Zip.{AllZip-long}
 use Rattle.elf_model.specs.Objects.{ObjectParts}
-use Rattle.elf_model.proofs.Elements.{element_at, place_of}
+use Rattle.elf_model.proofs.Elements.{element_at}
 use Rattle.thumb_encode.specs.declared.codes.Code.{Code}
 use Rattle.thumb_encode.specs.declared.codes.Width.{Width}
-use Rattle.thumb_encode.specs.declared.codes.Width.TheVariants.{Half, Full}
 use Rattle.thumb_encode.specs.Encoding.{width_of}
 use Rattle.seq_core.specs.declared.steps.Step.{Step}
 use Rattle.seq_core.specs.declared.units.Unit.{Unit as SeqUnit}
@@ -25,7 +23,7 @@ use Rattle.branch_layout.specs.Copies.{copies_of, bytes_of as bytes_of_width, le
 use Rattle.branch_layout.specs.Widths.{IsLong, AreLong}
 use Rattle.branch_layout.specs.Goals.{placed_instr}
 use Rattle.branch_layout.specs.Placings.{Stretch, Placing, place_of as stretch_place, places_of, IsStretch, IsPlacing, unit_point, word_point}
-use Rattle.branch_layout.specs.Layouts.{IsFirstCode, AreCodes, IsPlacedUnit, ArePlaces, IsLayout}
+use Rattle.branch_layout.specs.Layouts.{IsFirstCode, IsPlacedUnit}
 use Rattle.branch_layout.specs.Laid.{laid_place, laid_places, IsLaid}
 use Rattle.branch_layout.proofs.LaidFacts.{layouts_laid}
 use Rattle.branch_layout.proofs.WithinFacts.{all_zip_at, zip_at, bytes_most, unit_within, word_within, IsWithin}
@@ -36,7 +34,7 @@ use Rattle.branch_layout.proofs.OnePlacing.{unit_among, word_among}
 use Rattle.emit_object.specs.UnitCopies.{Copy, unit_copies}
 use Rattle.emit_object.specs.Emitting.{IsUnitAt, CanEmit, unit_of, units_of}
 use Rattle.emit_object.specs.SmallUnits.{IsSmall}
-use Rattle.emit_object.proofs.SitePlaces.{copy_at, IsCopyAt}
+use Rattle.emit_object.proofs.SitePlaces.{copy_at}
 
 many_bytes : (ws : List Width) → 2 * length ws ≤ length_of ws
 many_bytes [] = omega arith

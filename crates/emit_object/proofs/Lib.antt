@@ -31,3 +31,5 @@ pub mod SitePlaces
 pub mod LaidUnits
 pub mod SitesApart
 pub mod SitesAre
+pub mod CarriedFacts
+pub mod SoundRelocs

@@ -9,7 +9,7 @@ use Rattle.std.proofs.lemmas.List.Elements.{Contains-append_left, Contains-appen
 use Rattle.std.proofs.lemmas.Option.{none-some, same_Some}
 use Rattle.elf_model.specs.declared.objects.Reloc.{Reloc}
 use Rattle.elf_model.specs.Objects.{ObjectParts}
-use Rattle.elf_model.proofs.Elements.{contains_none, contains_map, map_contains, contains_filter, filter_contains, given_by, given_is, given_has, IsGiven, place_of, contains_at}
+use Rattle.elf_model.proofs.Elements.{contains_none, contains_map, map_contains, contains_filter, filter_contains, given_by, given_is, given_has, IsGiven, place_of}
 use Rattle.thumb_encode.specs.declared.codes.Code.{Code}
 use Rattle.thumb_encode.specs.declared.codes.Width.{Width}
 use Rattle.thumb_encode.specs.declared.codes.Width.TheVariants.{Half, Full}
@@ -18,7 +18,7 @@ use Rattle.flow_recover.specs.declared.flows.PoolWord.{PoolWord}
 use Rattle.seq_core.specs.declared.steps.Step.{Step}
 use Rattle.seq_core.specs.Places.{PlacedParts}
 use Rattle.branch_layout.specs.Copies.{bytes_of as bytes_of_width}
-use Rattle.branch_layout.proofs.WithinFacts.{zip_at, zip_parts}
+use Rattle.branch_layout.proofs.WithinFacts.{zip_parts}
 use Rattle.emit_object.specs.declared.reloc_sites.Site.{Site}
 use Rattle.emit_object.specs.UnitCopies.{Copy, copies_from, carries, unit_copies, copy_carries}
 use Rattle.emit_object.specs.RelocSites.{data_site, data_sites, with_number, numbered, copy_site, copy_sites, sites_on, unit_sites, step_sites, site_at, site_of, word_site, word_sites}

@@ -1,8 +1,6 @@
 -- Units and words of a layout stand apart, and each copy of a unit within it.
-use Rattle.std.proofs.Common.{◌≡◌, ◌≤◌, ◌<◌, ℕ, zero, suc, ◌+◌, ◌*◌, ◌%◌, Bool, true, false, List, [], ◌∷◌, length, map, take, refl, sym, ap, ◌∙◌, subst, arith, inl, inr, Option, Some, None, eq-eqb}
-use Rattle.std.specs.Prelude.{slice_get, Contains, All, ◌==◌}
-use Rattle.std.specs.List.{AllZip, zip}
-use Rattle.std.proofs.lemmas.Option.{none-some, same_Some, slice_get_within}
+use Rattle.std.proofs.Common.{◌≡◌, ◌≤◌, ◌<◌, ℕ, suc, ◌+◌, ◌%◌, List, [], ◌∷◌, length, take, refl, sym, ap, ◌∙◌, arith, inl, inr, Some, eq-eqb}
+use Rattle.std.specs.Prelude.{slice_get, Contains, ◌==◌}
 use Rattle.std.proofs.lemmas.List.Sums.{sum_by-cons}
 use Rattle.elf_model.proofs.Elements.{contains_cases, contains_later, contains_at, contains_none, contains_filter, filter_contains, element_at}
 use Rattle.thumb_encode.specs.declared.codes.Code.{Code}
@@ -12,7 +10,7 @@ use Rattle.seq_core.specs.declared.steps.Step.{Step}
 use Rattle.seq_core.specs.declared.units.Unit.{Unit as SeqUnit}
 use Rattle.flow_recover.specs.declared.flows.PoolWord.{PoolWord}
 use Rattle.hardened_form.specs.Items.{Item, items_in, new_start, StandFrom}
-use Rattle.branch_layout.specs.Copies.{copies_of, bytes_of as bytes_of_width, length_of, bytes_before}
+use Rattle.branch_layout.specs.Copies.{bytes_of as bytes_of_width, length_of, bytes_before}
 use Rattle.branch_layout.specs.Placings.{Placing, IsPlacing}
 use Rattle.branch_layout.proofs.WithinFacts.{IsEven, starts, stands_between, item_is_even}
 use Rattle.emit_object.specs.UnitCopies.{Copy, copies_from}

@@ -1,6 +1,6 @@
 -- The sites of relocations are at different places.
-use Rattle.std.proofs.Common.{◌≡◌, ◌≤◌, ◌<◌, ◌⊎◌, ℕ, zero, suc, ◌+◌, Bool, true, false, cond, List, [], ◌∷◌, ◌++◌, length, map, filter, inl, inr, refl, sym, ap, ◌∙◌, subst, arith, Option, Some, None}
-use Rattle.std.specs.Prelude.{slice_get, Contains, All, not}
+use Rattle.std.proofs.Common.{◌≡◌, ◌≤◌, ◌<◌, ℕ, suc, ◌+◌, Bool, true, false, cond, List, [], ◌∷◌, filter, inl, inr, refl, sym, ap, ◌∙◌, subst, arith, Option, Some, None}
+use Rattle.std.specs.Prelude.{slice_get, Contains, not}
 use Rattle.std.specs.Option.{option_to_list}
 use Rattle.std.specs.List.{zip}
 use Rattle.std.proofs.lemmas.Bool.{true≢false}
@@ -9,23 +9,20 @@ use Rattle.std.proofs.lemmas.Option.{none-some, same_Some, slice_get_within}
 use Rattle.elf_model.specs.declared.objects.Section.{Section}
 use Rattle.elf_model.specs.declared.objects.Reloc.{Reloc}
 use Rattle.elf_model.specs.Objects.{ObjectParts, is_object, is_code}
-use Rattle.elf_model.proofs.Elements.{element_at, contains_here, contains_later, contains_none, contains_cases, contains_at, given_by, given_is}
+use Rattle.elf_model.proofs.Elements.{element_at, contains_none, contains_cases, contains_at, given_by, given_is}
 use Rattle.thumb_encode.specs.declared.codes.Code.{Code}
 use Rattle.thumb_encode.specs.Encoding.{width_of}
 use Rattle.seq_core.specs.declared.steps.Step.{Step}
-use Rattle.seq_core.specs.declared.units.Unit.{Unit as SeqUnit}
 use Rattle.seq_core.specs.Places.{PlacedParts, LayoutParts}
-use Rattle.code_ranges.specs.Spans.{place_cmp}
 use Rattle.reloc_places.specs.Relocations.{reloc_at}
 use Rattle.flow_recover.specs.declared.flows.PoolWord.{PoolWord}
 use Rattle.flow_recover.specs.Flows.{FlowParts}
 use Rattle.flow_recover.specs.WholeFlows.{IsFlow}
 use Rattle.flow_recover.proofs.RightRelocs.{reloc_there}
 use Rattle.flow_recover.proofs.OneFlow.{index_once}
-use Rattle.hardened_form.specs.Items.{Item, item_of_unit, item_of_word}
+use Rattle.hardened_form.specs.Items.{Item, item_of_word}
 use Rattle.branch_layout.specs.Copies.{bytes_of as bytes_of_width}
 use Rattle.branch_layout.specs.Placings.{unit_point, word_point}
-use Rattle.branch_layout.proofs.WithinFacts.{zip_parts}
 use Rattle.branch_layout.proofs.StepCopies.{bytes_least}
 use Rattle.emit_object.specs.declared.reloc_sites.Site.{Site}
 use Rattle.emit_object.specs.Lasting.{has_data}
@@ -33,10 +30,10 @@ use Rattle.emit_object.specs.UnitCopies.{Copy, copies_from, copy_carries, unit_c
 use Rattle.emit_object.specs.Emitting.{CanEmit, units_of}
 use Rattle.emit_object.specs.RelocSites.{data_site, data_sites, numbered, copy_site, sites_on, unit_sites, step_sites, site_of, word_site, word_sites, code_sites, all_sites}
 use Rattle.emit_object.proofs.FlowGives.{stands, of_point, of_word}
-use Rattle.emit_object.proofs.SiteLists.{data_are, words_are, data_is, IsNumbered, IsUnitSite, unit_is, IsStepSite, step_is, IsWordSite, word_at, word_is}
+use Rattle.emit_object.proofs.SiteLists.{data_are, words_are, data_is, unit_is, step_is, IsWordSite, word_at, word_is}
 use Rattle.emit_object.proofs.SiteOrder.{Apart, Differ, contains-All, apart_append, apart_filter, apart_map}
 use Rattle.emit_object.proofs.SitePlaces.{one_item}
-use Rattle.emit_object.proofs.LaidUnits.{placing_of, placed_is, pool_count, point_of, stretch_of, item, item_there, item_start, item_end, copy_in, word_item_there}
+use Rattle.emit_object.proofs.LaidUnits.{placing_of, placed_is, point_of, stretch_of, item, item_there, item_start, item_end, copy_in, word_item_there}
 
 -- LISTS
 

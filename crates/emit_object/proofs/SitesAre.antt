@@ -1,5 +1,5 @@
 -- The relocations that are made at the sites of an object and a layout are those of the hardened object.
-use Rattle.std.proofs.Common.{◌≡◌, ◌↔◌, ◌≤◌, ◌<◌, ◌⊎◌, ℕ, zero, suc, ◌+◌, ◌-◌, Bool, true, false, cond, List, [], ◌∷◌, ◌++◌, length, map, filter, inl, inr, refl, sym, ap, ◌∙◌, subst, arith, Option, Some, None}
+use Rattle.std.proofs.Common.{◌≡◌, ◌↔◌, ℕ, ◌+◌, ◌-◌, Bool, true, false, cond, List, map, filter, inl, inr, refl, sym, ap, ◌∙◌, subst, arith, Option, Some, None}
 use Rattle.std.specs.Prelude.{slice_get, Contains, not, nat_le, IsPermutation}
 use Rattle.std.specs.Option.{option_map, option_map_or}
 use Rattle.std.specs.List.{zip}
@@ -7,7 +7,7 @@ use Rattle.std.specs.List.Sorted.{IsSortedByKey}
 use Rattle.std.proofs.lemmas.Bool.{true≢false, cases_Bool}
 use Rattle.std.proofs.lemmas.List.Elements.{Contains-append_left, Contains-append_right, Contains-append_cases}
 use Rattle.std.proofs.lemmas.List.Sorted.{Contains-permutation, IsPermutation-sym}
-use Rattle.std.proofs.lemmas.Option.{none-some, same_Some, slice_get_within, slice_get-map}
+use Rattle.std.proofs.lemmas.Option.{none-some, same_Some, slice_get-map}
 use Rattle.elf_model.specs.declared.objects.Section.{Section}
 use Rattle.elf_model.specs.declared.objects.Reloc.{Reloc}
 use Rattle.elf_model.specs.declared.objects.RelocKind.{RelocKind}
@@ -20,11 +20,10 @@ use Rattle.seq_core.specs.declared.units.Unit.{Unit as SeqUnit}
 use Rattle.seq_core.specs.Places.{PlacedParts, LayoutParts}
 use Rattle.code_ranges.specs.Spans.{place_cmp}
 use Rattle.flow_recover.specs.declared.flows.Point.{Point}
-use Rattle.flow_recover.specs.declared.flows.PoolWord.{PoolWord}
 use Rattle.flow_recover.specs.Flows.{FlowParts}
 use Rattle.flow_recover.specs.WholeFlows.{IsFlow}
 use Rattle.hardened_form.specs.Places.{UnitPlace, Places}
-use Rattle.hardened_form.specs.Carriers.{Carrier, IsCarrier, kind_on}
+use Rattle.hardened_form.specs.Carriers.{Carrier, kind_on}
 use Rattle.hardened_form.specs.Symbols.{Lists}
 use Rattle.hardened_form.specs.Relocs.{StandsFor, IsNewReloc, AreRelocs}
 use Rattle.hardened_form.specs.Relocs.{IsWordOf as word_of}
@@ -36,10 +35,10 @@ use Rattle.emit_object.specs.declared.reloc_sites.Site.{Site}
 use Rattle.emit_object.specs.Lasting.{has_data}
 use Rattle.emit_object.specs.UnitCopies.{Copy, unit_copies, copy_carries, carrier, carriers_of, all_carriers}
 use Rattle.emit_object.specs.Emitting.{CanEmit}
-use Rattle.emit_object.specs.RelocSites.{site_of, site_place, data_site, data_sites, copy_site, unit_sites, step_sites, word_sites, code_sites, all_sites}
+use Rattle.emit_object.specs.RelocSites.{site_of, site_place, data_site, data_sites, copy_site, step_sites, word_sites, code_sites, all_sites}
 use Rattle.emit_object.specs.SitesInOrder.{AreInOrder}
 use Rattle.emit_object.specs.MadeRelocs.{IsMadeAt, IsMade, AreMade}
-use Rattle.emit_object.proofs.SiteLists.{data_is, data_has, IsUnitSite, unit_is, unit_has, IsStepSite, step_is, step_has, IsWordSite, word_is, word_has}
+use Rattle.emit_object.proofs.SiteLists.{data_is, data_has, unit_is, unit_has, step_is, step_has, word_is, word_has}
 use Rattle.emit_object.proofs.SiteOrder.{rise_sorted}
 use Rattle.emit_object.proofs.SitesApart.{data_parts, all_apart}
 use Rattle.emit_object.proofs.LaidUnits.{point_of, stretch_of}

@@ -1,5 +1,5 @@
 -- The relocations that stand at some sites.
-use Rattle.std.specs.Prelude.{◌≡◌, ◌↔◌, ℕ, true, List, Contains}
+use Rattle.std.specs.Prelude.{◌≡◌, ◌↔◌, true, List, Contains}
 use Rattle.elf_model.specs.declared.objects.Reloc.{Reloc}
 use Rattle.elf_model.specs.Objects.{ObjectParts, rise}
 use Rattle.hardened_form.specs.Symbols.{Lists}

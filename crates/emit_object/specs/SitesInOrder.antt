@@ -1,5 +1,5 @@
 -- Sites by section and offset.
-use Rattle.std.specs.Prelude.{◌≡◌, ℕ, List, Some, map, slice_get, Contains}
+use Rattle.std.specs.Prelude.{◌≡◌, List, Some, map, slice_get, Contains}
 use Rattle.std.specs.List.Sorted.{IsStrictlySortedBy}
 use Rattle.elf_model.specs.declared.objects.Reloc.{Reloc}
 use Rattle.elf_model.specs.Objects.{ObjectParts}

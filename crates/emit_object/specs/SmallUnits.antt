@@ -1,5 +1,5 @@
 -- Units whose offsets are small.
-use Rattle.std.specs.Prelude.{◌≡◌, ◌<◌, ℕ, ◌+◌, ◌*◌, ◌^◌, length}
+use Rattle.std.specs.Prelude.{◌≡◌, ◌<◌, ◌+◌, ◌*◌, ◌^◌, length}
 use Rattle.seq_core.specs.Places.{PlacedParts}
 use Rattle.branch_layout.specs.Copies.{copies_of}
 

@@ -2,17 +2,22 @@
 
 ghost use Rattle.std.specs.Prelude.{◌≡◌, ◌↔◌, ◌+◌, ◌<◌, ◌^◌, ◌++◌, ℕ, List, Some, length, map, IfOk, IsTrue, OnOk};
 ghost use Rattle.std.specs.Option.{option_to_list};
+ghost use Rattle.std.specs.List.{list_all};
 ghost use Rattle.std.specs.List.Sorted.{IsStrictlySortedBy};
 ghost use Rattle.elf_model.specs.declared.objects.Reloc.{Reloc as RelocParts};
-ghost use Rattle.elf_model.specs.Objects.{ObjectParts, is_within};
+ghost use Rattle.elf_model.specs.declared.objects.MapRow.{MapRow};
+ghost use Rattle.elf_model.specs.Objects.{ObjectParts, is_within, is_reloc};
 ghost use Rattle.code_ranges.specs.Spans.{place_cmp};
 ghost use Rattle.flow_recover.specs.WholeFlows.{IsFlow};
+ghost use Rattle.hardened_form.specs.Items.{Item};
+ghost use Rattle.hardened_form.specs.Sections.{AreSections};
 ghost use Rattle.hardened_form.specs.Symbols.{Lists};
 ghost use Rattle.hardened_form.specs.Relocs.{AreRelocs};
 ghost use Rattle.branch_layout.specs.Laid.{laid_places};
 ghost use Rattle.emit_object.specs.Emitting.{CanEmit};
+ghost use Rattle.emit_object.specs.Laid.{HasSizes};
 ghost use Rattle.emit_object.specs.MadeRelocs.{IsMadeAt, AreMade};
-ghost use Rattle.emit_object.specs.Numbering.{AreNumbers};
+ghost use Rattle.emit_object.specs.Numbering.{AreNumbers, AreNewSymbols};
 ghost use Rattle.emit_object.specs.Readable.{AreReadable};
 ghost use Rattle.emit_object.specs.RelocSites.{site_place};
 ghost use Rattle.emit_object.specs.SitesInOrder.{AreInOrder};
@@ -96,6 +101,7 @@ pub(crate) fn reloc_table(
     requires few { first + length targets.now < 2 ^ 32 }
     requires rise { IsStrictlySortedBy place_cmp targets.now }
     ensures exact { IfOk result (λ list. (h : ObjectParts) (lists : Lists) → AreNumbers o.now lists targets.now first numbers.now → h.relocs ≡ list.items → AreRelocs o.now h f.now (laid_places l.now) (all_carriers l.now) lists) }
+    ensures sound { IfOk result (λ list. (h : ObjectParts) (items : List Item) (rows : List MapRow) → HasSizes o.now h l.now.sizes → AreSections o.now h rows → AreNewSymbols o.now h f.now l.now items h.symbols targets.now first numbers.now → IsTrue (list_all (is_reloc h.sections h.symbols) list.items)) }
 {
     o.sound();
     let sites = reloc_sites(alloc, o, f, l)?;

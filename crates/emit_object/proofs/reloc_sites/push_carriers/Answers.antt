@@ -1,4 +1,4 @@
-use Rattle.std.proofs.Common.{◌≡◌, ◌∙◌, ◌++◌, ◌∷◌, [], ℕ, ◌+◌, List, Vec, Global, get_or, drop, sym, ap, subst, arith}
+use Rattle.std.proofs.Common.{◌≡◌, ◌∙◌, ◌++◌, ◌∷◌, [], ℕ, ◌+◌, Vec, Global, get_or, drop, sym, ap, subst, arith}
 use Rattle.elf_model.specs.declared.objects.RelocKind.{RelocKind}
 use Rattle.thumb_encode.specs.declared.codes.Code.TheVariants.{Half}
 use Rattle.thumb_encode.specs.Encoding.{width_of}

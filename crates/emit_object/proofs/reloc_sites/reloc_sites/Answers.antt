@@ -1,7 +1,6 @@
 use Rattle.std.proofs.Common.{◌≡◌, rules}
 use Rattle.std.proofs.lemmas.List.Sorted.{answers_always}
 use Rattle.emit_object.specs.RelocSites.{site_place}
-use Rattle.emit_object.specs.declared.reloc_sites.Site.{Site}
 use Rattle.emit_object.proofs.reloc_sites.reloc_sites.Goals as goal
 
 pub returns-clause-sorted : goal.returns-clause-sorted

@@ -1,5 +1,4 @@
-use Rattle.std.proofs.Common.{[], List, ◌++◌, sym, ap, subst, take, ◌+◌}
-use Rattle.std.specs.Option.{option_to_list}
+use Rattle.std.proofs.Common.{[], List, sym, subst, take, ◌+◌}
 use Rattle.std.proofs.lemmas.List.{take_all}
 use Rattle.std.proofs.lemmas.Option.{slice_get-get_or}
 use Rattle.elf_model.specs.declared.objects.Reloc.{Reloc}
