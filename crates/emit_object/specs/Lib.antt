@@ -16,3 +16,10 @@ pub mod KeptBytes
 pub mod NewSections
 pub mod UnitCopies
 pub mod Emitting
+pub mod CodePieces
+pub mod CodeBytes
+pub mod NewCode
+pub mod SmallUnits
+pub mod RelocSites
+pub mod SitesInOrder
+pub mod MadeRelocs

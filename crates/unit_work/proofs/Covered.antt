@@ -1,8 +1,8 @@
 -- A task that another one covers is done where that is.
-use Rattle.std.proofs.Common.{◌≡◌, ◌≤◌, ◌<◌, ℕ, ◌+◌, List, [], ◌∷◌, ◌++◌, Bool, true, false, refl, sym, ap, ◌∙◌, subst, arith, length, Ok, Err, Option}
+use Rattle.std.proofs.Common.{◌≡◌, ◌≤◌, ℕ, Bool, true, false, sym, ◌∙◌, subst, arith, Ok, Err}
 use Rattle.thumb_table.specs.declared.faults.FaultKind.TheVariants.{Trap}
 use Rattle.thumb_table.specs.Parts.{CodeBytes}
-use Rattle.thumb_table.specs.States.{Core, State, Change, Outcome, at, applied}
+use Rattle.thumb_table.specs.States.{Core, State, Change, at, applied}
 use Rattle.thumb_table.specs.Steps.{goes_on}
 use Rattle.seq_core.specs.Does.{Task, Does, Comes, StopsAt, SameBut, Tolerates}
 

@@ -1,12 +1,10 @@
 -- A task that changes nothing needs no steps.
-use Rattle.std.proofs.Common.{◌≡◌, ◌≤◌, ◌<◌, ℕ, ◌+◌, List, [], ◌∷◌, Bool, true, false, refl, sym, ap, ◌∙◌, subst, arith, length, Ok, Err, None, Some}
-use Rattle.thumb_table.specs.declared.faults.FaultKind.{FaultKind}
+use Rattle.std.proofs.Common.{◌≡◌, ℕ, Bool, refl, sym, ◌∙◌, subst, arith, Ok, Err}
 use Rattle.thumb_table.specs.declared.faults.FaultKind.TheVariants.{Trap}
-use Rattle.thumb_instr.specs.Blocks.{it_after}
 use Rattle.thumb_table.specs.Parts.{CodeBytes}
 use Rattle.thumb_table.specs.States.{Core, State, Change, Outcome, at, applied, unchanged}
 use Rattle.thumb_table.specs.Steps.{goes_on}
-use Rattle.seq_core.specs.Does.{Task, Does, Comes, StopsAt, SameBut, KeepsMember, Begins, Tolerates}
+use Rattle.seq_core.specs.Does.{Task, Comes, SameBut, Begins, Tolerates}
 
 stay : (code : CodeBytes) (skips : ℕ → Bool) (n clock : ℕ) (s : State) → Comes code skips n clock s s
 stay code skips n clock s = record { steps = 0; within = omega arith; runs = refl }

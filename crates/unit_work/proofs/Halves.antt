@@ -1,5 +1,5 @@
 -- MOVW and MOVT do their work by whatever number linking puts there.
-use Rattle.std.proofs.Common.{◌≡◌, ◌≤◌, ◌⊎◌, inl, inr, ℕ, List, [], ◌∷◌, Bool, true, false, refl, sym, ap, ◌∙◌, subst, length, Option, Some, None}
+use Rattle.std.proofs.Common.{◌≡◌, ◌≤◌, ◌⊎◌, inl, inr, ℕ, List, [], Bool, true, false, refl, subst}
 use Rattle.std.specs.Prelude.{◌&&◌}
 use Rattle.thumb_instr.specs.declared.conditions.Cond.{Cond}
 use Rattle.thumb_instr.specs.declared.conditions.Cond.TheVariants.{Eq, Ne, Cs, Cc, Mi, Pl, Vs, Vc, Hi, Ls, Ge, Lt, Gt, Le, Al}
@@ -19,7 +19,7 @@ use Rattle.seq_core.specs.Denoted.{Spots, groups_of}
 use Rattle.seq_core.specs.Guards.{ConditionCarries, guarded}
 use Rattle.seq_core.specs.Sequences.{Carries, Settles}
 use Rattle.seq_core.specs.Straight.{twice_steps}
-use Rattle.seq_core.specs.Builders.{CanBuild, Do, HasRow, StepsDo, loses, meaning, own_test}
+use Rattle.seq_core.specs.Builders.{Do, HasRow, StepsDo, loses, meaning, own_test}
 use Rattle.seq_core.proofs.ClassesApart.{one_class}
 use Rattle.seq_idempotent.proofs.InPlace.{Laws, twice_does}
 use Rattle.it_expand.specs.Expanded.{guard_of}

@@ -1,5 +1,5 @@
 -- The steps of a unit with the number that linking puts there.
-use Rattle.std.proofs.Common.{◌≡◌, ℕ, ◌+◌, List, [], ◌∷◌, ◌++◌, map, take, length, Bool, true, false, refl, sym, ap, ◌∙◌, suc, arith, Option, Some, None}
+use Rattle.std.proofs.Common.{◌≡◌, ℕ, ◌+◌, List, [], ◌∷◌, ◌++◌, map, take, length, Bool, true, false, refl, ap, ◌∙◌, suc, arith, Option, Some, None}
 use Rattle.std.specs.Prelude.{if◌then◌else◌, slice_get}
 use Rattle.elf_model.specs.declared.objects.Reloc.{Reloc}
 use Rattle.elf_model.specs.Objects.{ObjectParts}
@@ -10,12 +10,13 @@ use Rattle.thumb_instr.specs.declared.instructions.Instr.TheVariants as instr
 use Rattle.hardened_form.specs.Turns.{is_turned}
 use Rattle.hardened_form.specs.Code.{reloc_of}
 use Rattle.seq_core.specs.declared.steps.Step.{Step}
-use Rattle.seq_core.specs.declared.steps.Goal.TheVariants.{Nowhere, End}
+use Rattle.seq_core.specs.declared.steps.Goal.TheVariants.{End}
 use Rattle.seq_core.specs.Groups.{branching}
 use Rattle.seq_core.specs.Replaced.{leading}
 use Rattle.point_units.specs.Units.{trapping, landed, under, left_by}
 use Rattle.sim_relation.specs.Doing.{with_number}
-use Rattle.unit_work.proofs.Made.{is_half, suits, IsMade, AreMade}
+use Rattle.emit_object.specs.UnitCopies.{is_half}
+use Rattle.unit_work.proofs.Made.{suits, AreMade}
 
 abbrev pub linked_step : Option ℕ → ℕ → Step → Step
 linked_step r n s = record s { instr = with_number r n s.instr }

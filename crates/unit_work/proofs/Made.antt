@@ -1,6 +1,6 @@
 -- What the steps are by which an instruction is replaced.
 use Rattle.std.proofs.Common.{◌≡◌, ℕ, List, [], ◌∷◌, Bool, true, false, refl, Option, Some, None}
-use Rattle.std.specs.Prelude.{if◌then◌else◌, not, pos, ⊤, ◌&&◌}
+use Rattle.std.specs.Prelude.{if◌then◌else◌, not, ⊤}
 use Rattle.thumb_instr.specs.declared.operations.AluOp.TheVariants as alu
 use Rattle.thumb_instr.specs.declared.places.Place.{Place}
 use Rattle.thumb_instr.specs.declared.places.Place.TheVariants as place
@@ -16,10 +16,10 @@ use Rattle.thumb_instr.specs.Sets.{reads_of, writes_of, keeps_bits}
 use Rattle.seq_core.specs.declared.classes.Class.{Class}
 use Rattle.seq_core.specs.declared.classes.Class.TheVariants as class
 use Rattle.seq_core.specs.declared.steps.Step.{Step}
-use Rattle.seq_core.specs.declared.steps.Goal.TheVariants.{Nowhere, End, Landing, Target}
+use Rattle.seq_core.specs.declared.steps.Goal.TheVariants.{Nowhere, End}
 use Rattle.seq_core.specs.Accepted.{operand_names_stack}
 use Rattle.seq_core.specs.Classes.{IsOf, branches_on_zero}
-use Rattle.seq_core.specs.Groups.{moving, branching}
+use Rattle.seq_core.specs.Groups.{moving}
 use Rattle.seq_core.specs.Twice.{inserting}
 use Rattle.seq_core.specs.Through.{register_sum}
 use Rattle.seq_core.specs.Bases.{summing, access_at, pair_at}
@@ -27,11 +27,8 @@ use Rattle.seq_core.specs.Sent.{destination, sent}
 use Rattle.seq_core.specs.Stacks.{transfer_at}
 use Rattle.seq_core.specs.Straight.{own_goal, flagged, around, around_pair, written_back}
 use Rattle.seq_core.specs.Built.{placed, through_one, through_two, as_steps}
-use Rattle.seq_core.specs.Replaced.{copy_loading, base_copied, long_summed, moved_list, popped, with_link, jumping, stack_stepped, leading, links, branches, called, register_called, zero_branched, replaced}
-
-abbrev pub is_half : Instr → Bool
-is_half (instr.Half i) = true
-is_half i = false
+use Rattle.seq_core.specs.Replaced.{copy_loading, base_copied, long_summed, moved_list, popped, with_link, jumping, stack_stepped, leading, links, branches, register_called, zero_branched, replaced}
+use Rattle.emit_object.specs.UnitCopies.{is_half}
 
 -- A step that stands for an instruction is no call of its own, nor IT, and MOVW or MOVT only where that is.
 abbrev pub suits : Instr → Instr → Bool

@@ -1,8 +1,8 @@
 -- What stands for a step of a unit, linked, reaches the step's goal.
-use Rattle.std.proofs.Common.{◌≡◌, ◌≢◌, ◌≤◌, ◌⊎◌, inl, inr, ℕ, ◌+◌, ◌-◌, ◌*◌, ◌/◌, ◌%◌, ◌^◌, List, [], ◌∷◌, Bool, true, false, refl, sym, ap, ◌∙◌, subst, arith, Option, Some, None}
+use Rattle.std.proofs.Common.{◌≡◌, ◌≢◌, ◌≤◌, inl, inr, ℕ, ◌+◌, ◌-◌, ◌%◌, ◌^◌, [], ◌∷◌, Bool, true, false, refl, sym, ap, ◌∙◌, subst, Option, Some, None}
 use Rattle.std.specs.Prelude.{nat_le, ◌&&◌, is_some, if◌then◌else◌, Contains}
 use Rattle.std.specs.Option.{option_and_then, option_map_or}
-use Rattle.std.proofs.lemmas.Option.{none-some, same_Some}
+use Rattle.std.proofs.lemmas.Option.{same_Some}
 use Rattle.elf_model.specs.Fields.{word_at}
 use Rattle.elf_model.proofs.Elements.{contains_cases, contains_none}
 use Rattle.thumb_instr.specs.Fields.{HalfFields, BranchFields, ZeroBranchFields, AdrFields, LiteralFields}
@@ -10,7 +10,6 @@ use Rattle.thumb_instr.specs.declared.instructions.Instr.{Instr}
 use Rattle.thumb_instr.specs.declared.instructions.Instr.TheVariants as instr
 use Rattle.thumb_table.specs.Parts.{CodeBytes}
 use Rattle.thumb_table.specs.States.{Site}
-use Rattle.thumb_table.specs.Values.{away}
 use Rattle.thumb_table.specs.Effects.{lies, marked, mark_at}
 use Rattle.seq_core.specs.declared.steps.Step.{Step}
 use Rattle.seq_core.specs.declared.steps.Goal.{Goal}
@@ -19,12 +18,12 @@ use Rattle.seq_core.specs.declared.units.Unit.{Unit as SeqUnit}
 use Rattle.seq_core.specs.Denoted.{Spots, spot_of, Reached}
 use Rattle.hardened_form.specs.Places.{UnitPlace, Places}
 use Rattle.branch_layout.specs.Given.{goals_of}
-use Rattle.branch_layout.specs.Goals.{base_of, aimed, start_of, target_of, word_of, goal_of, placed_instr, Reaches, ReachesGoal}
+use Rattle.branch_layout.specs.Goals.{base_of, aimed, start_of, target_of, word_of, placed_instr, Reaches, ReachesGoal}
 use Rattle.branch_layout.specs.Leads.{Leads, IsRoom, NumbersLead, leads_to_code, CopiesReach}
-use Rattle.emit_object.specs.UnitCopies.{carries}
+use Rattle.emit_object.specs.UnitCopies.{carries, is_half}
 use Rattle.sim_relation.specs.Standing.{Linking, IsPut, IsLinked, linked_mark, WordStands}
 use Rattle.sim_relation.specs.Doing.{with_number}
-use Rattle.unit_work.proofs.Made.{is_half, suits}
+use Rattle.unit_work.proofs.Made.{suits}
 use Rattle.unit_work.proofs.Linked.{linked_step, same_number}
 
 -- Where the goals of a unit are. What a call comes back to is the end of what the law of sequences speaks of.

@@ -1,19 +1,19 @@
 -- Steps stand in a code, each of its copies with its goal reached.
-use Rattle.std.proofs.Common.{◌≡◌, ◌≤◌, ◌<◌, ℕ, zero, suc, ◌+◌, List, [], ◌∷◌, ◌++◌, map, take, drop, replicate, length, refl, sym, ap, ◌∙◌, subst, arith, Some, Ok, append_assoc}
+use Rattle.std.proofs.Common.{◌≡◌, ◌≤◌, ℕ, zero, suc, ◌+◌, List, [], ◌∷◌, ◌++◌, map, take, drop, replicate, length, refl, sym, ap, ◌∙◌, subst, arith, Some, Ok, append_assoc}
 use Rattle.std.specs.Prelude.{slice_get, ⊤}
 use Rattle.std.proofs.lemmas.Option.{none-some, same_Some}
+use Rattle.std.proofs.lemmas.List.{length-append, length-replicate}
 use Rattle.std.proofs.lemmas.List.Sums.{sum_by-cons}
 use Rattle.thumb_instr.specs.declared.refusals.ItPlace.TheVariants.{Outside}
 use Rattle.thumb_instr.specs.declared.instructions.Instr.{Instr}
 use Rattle.thumb_instr.specs.Rows.{decode}
 use Rattle.thumb_encode.specs.declared.codes.Code.{Code}
-use Rattle.thumb_encode.specs.declared.codes.Width.{Width}
 use Rattle.thumb_encode.specs.Encoding.{width_of}
 use Rattle.thumb_table.specs.Parts.{CodeBytes}
 use Rattle.thumb_table.specs.Steps.{Fetched, fetch}
 use Rattle.seq_core.specs.declared.steps.Step.{Step}
 use Rattle.seq_core.specs.Denoted.{Spots, Reached, StepCopies, StepsStand}
-use Rattle.branch_layout.specs.Copies.{copies_of, bytes_of, length_of, bytes_before}
+use Rattle.branch_layout.specs.Copies.{copies_of, bytes_of, bytes_before}
 use Rattle.emit_object.specs.UnitCopies.{Copy, copies_from}
 
 -- an instruction of so many bytes stands at an address, and reaches the step's goal
@@ -127,3 +127,28 @@ after_is (suc n) at (c ∷ cs) =
     let more : bytes_before (map width_of (c ∷ cs)) (suc n) ≡ bytes c + bytes_before (map width_of cs) n = sum_by-cons bytes_of (width_of c) (take n (map width_of cs)) in
     let rest = after_is n (at + bytes c) cs in
     omega arith
+
+after_none : (n at : ℕ) → after n at [] ≡ at
+after_none zero at = refl
+after_none (suc n) at = refl
+
+after_parts : (n m k at : ℕ) (cs : List Code) → k ≡ n + m → after k at cs ≡ after m (after n at cs) (drop n cs)
+after_parts zero m k at cs e = let f : k ≡ m = omega arith in ap (λ (i : ℕ). after i at cs) f
+after_parts (suc n) m k at [] e = after_none k at ∙ sym (after_none m at)
+after_parts (suc n) m zero at (c ∷ cs) e = absurd (omega arith)
+after_parts (suc n) m (suc k) at (c ∷ cs) e = after_parts n m k (at + bytes c) cs (omega arith)
+
+after_steps_is : (ss : List Step) (at : ℕ) (cs : List Code) → after_steps ss at cs ≡ after (length (copies_of ss)) at cs
+after_steps_is [] at cs = refl
+after_steps_is (s ∷ ss) at cs =
+    let both : length (copies_of (s ∷ ss)) ≡ length (replicate s.copies s) + length (copies_of ss) = length-append (replicate s.copies s) (copies_of ss) in
+    let here : length (replicate s.copies s) ≡ s.copies = length-replicate s.copies s in
+    after_steps_is ss (after s.copies at cs) (drop s.copies cs) ∙ sym (after_parts s.copies (length (copies_of ss)) (length (copies_of (s ∷ ss))) at cs (omega arith))
+
+pub steps_end : (ss : List Step) (at : ℕ) (cs : List Code) → after_steps ss at cs ≡ at + bytes_before (map width_of cs) (length (copies_of ss))
+steps_end ss at cs = after_steps_is ss at cs ∙ after_is (length (copies_of ss)) at cs
+
+pub copies_from_length : (at : ℕ) (ts : List Step) (cs : List Code) → length ts ≤ length cs → length (copies_from at ts cs) ≡ length ts
+copies_from_length at [] cs le = refl
+copies_from_length at (t ∷ ts) [] le = absurd (omega arith)
+copies_from_length at (t ∷ ts) (c ∷ cs) le = let rest = copies_from_length (at + bytes c) ts cs (omega arith) in omega arith
