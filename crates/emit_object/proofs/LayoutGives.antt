@@ -1,26 +1,24 @@
 -- What a layout that a hardened object can be made from gives: its units and words are those of the flow, in order, and low.
-use Rattle.std.proofs.Common.{◌≡◌, ◌<◌, ◌≤◌, ℕ, ◌+◌, ◌^◌, Bool, true, false, List, [], ◌∷◌, ◌++◌, length, map, get_or, refl, sym, ap, ◌∙◌, subst, inl, inr, arith, Option, Some, None}
-use Rattle.std.specs.Prelude.{slice_get, slice_index, Contains, All, flat_map, ◌==◌, ◌&&◌, nat_lt}
+use Rattle.std.proofs.Common.{◌≡◌, ◌<◌, ◌≤◌, ℕ, ◌+◌, ◌^◌, true, List, [], ◌∷◌, ◌++◌, length, map, get_or, refl, sym, ap, ◌∙◌, subst, inl, inr, arith, Option, Some, None}
+use Rattle.std.specs.Prelude.{slice_get, Contains, All, flat_map, ◌==◌, ◌&&◌, nat_lt}
 use Rattle.std.specs.List.{zip}
-use Rattle.std.specs.Option.{option_map}
 use Rattle.std.proofs.lemmas.Bool.{and_parts, eqb-true, ltb-true, cases_Bool}
 use Rattle.std.proofs.lemmas.List.{length-map}
 use Rattle.std.proofs.lemmas.List.Elements.{Contains-append_cases}
-use Rattle.std.proofs.lemmas.Option.{same_Some, slice_get_within, slice_get-get_or, slice_get-map, get_or_from_slice_get}
+use Rattle.std.proofs.lemmas.Option.{slice_get-get_or}
 use Rattle.elf_model.specs.Objects.{ObjectParts}
-use Rattle.elf_model.proofs.Elements.{element_at, place_of, contains_at, contains_map, contains_none, contains_here, contains_later}
+use Rattle.elf_model.proofs.Elements.{place_of, contains_at, contains_map, contains_none, contains_here, contains_later}
 use Rattle.code_ranges.proofs.InOrder.{same_at_each}
 use Rattle.flow_recover.specs.declared.flows.Point.{Point}
 use Rattle.flow_recover.specs.declared.flows.PoolWord.{PoolWord}
 use Rattle.flow_recover.specs.Flows.{FlowParts}
 use Rattle.flow_recover.specs.Points.{place_of_point}
-use Rattle.seq_core.specs.declared.units.Unit.{Unit as SeqUnit}
 use Rattle.seq_core.specs.Places.{PlacedParts, LayoutParts}
 use Rattle.hardened_form.specs.Places.{UnitPlace, Places}
 use Rattle.hardened_form.specs.Items.{Item, AreItems}
 use Rattle.hardened_form.specs.Standing.{old_points, old_words}
 use Rattle.hardened_form.specs.MappingSymbols.{pool_word_in, island_in, words_in, has_word, has_unit}
-use Rattle.branch_layout.specs.Placings.{Stretch, Placing, IsPlacing, unit_point, word_point, place_of as stretch_place, places_of as placing_places}
+use Rattle.branch_layout.specs.Placings.{Stretch, Placing, IsPlacing, unit_point, place_of as stretch_place, places_of as placing_places}
 use Rattle.branch_layout.specs.Laid.{laid_place, laid_places, IsLaid}
 use Rattle.branch_layout.proofs.LaidFacts.{layouts_laid}
 use Rattle.branch_layout.proofs.ApartFacts.{none_at_word}

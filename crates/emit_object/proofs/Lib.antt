@@ -36,3 +36,6 @@ pub mod SitesApart
 pub mod SitesAre
 pub mod CarriedFacts
 pub mod SoundRelocs
+pub mod InsideFacts
+pub mod FormFacts
+pub mod EmitFacts

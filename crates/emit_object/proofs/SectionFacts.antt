@@ -1,6 +1,6 @@
 -- The sections of a hardened object are made one after another, and are those that its form says.
-use Rattle.std.proofs.Common.{◌≡◌, ◌≢◌, ◌<◌, ◌≤◌, ◌⊎◌, ℕ, ◌+◌, ◌*◌, max, Bool, true, false, cond, List, [], ◌∷◌, ◌++◌, length, map, take, get_or, refl, sym, ap, ap₂, ◌∙◌, subst, inl, inr, arith, length-append, Option, Some, None, Vec, Global}
-use Rattle.std.specs.Prelude.{slice_get, slice_index, slice_index_or, Contains, nat_le, nat_lt, not, ◌==◌, ◌&&◌, ◌||◌}
+use Rattle.std.proofs.Common.{◌≡◌, ◌<◌, ℕ, ◌+◌, ◌*◌, max, Bool, true, false, cond, List, [], ◌∷◌, ◌++◌, length, map, refl, sym, ap, ◌∙◌, subst, inl, inr, arith, length-append, Some, Vec, Global}
+use Rattle.std.specs.Prelude.{slice_get, slice_index, slice_index_or, not, ◌==◌, ◌&&◌}
 use Rattle.std.specs.List.{list_any, list_all, flat_map}
 use Rattle.std.specs.Option.{option_map}
 use Rattle.std.proofs.lemmas.Bool.{and_parts, and_from, cases_Bool, cases_lt, eq-eqb, eqb-true, true≢false}
@@ -8,14 +8,13 @@ use Rattle.std.proofs.lemmas.Option.{same_Some, slice_get-map, slice_get_within,
 use Rattle.elf_model.specs.declared.objects.Section.{Section}
 use Rattle.elf_model.specs.declared.objects.MapRow.{MapRow}
 use Rattle.elf_model.specs.Constants.{nobits, progbits}
-use Rattle.elf_model.specs.Fields.{word, byte_at}
-use Rattle.elf_model.specs.Maps.{row_bytes, row_kind, map_section}
+use Rattle.elf_model.specs.Maps.{row_bytes, map_section}
 use Rattle.elf_model.specs.Objects.{ObjectParts, is_code, is_object, is_section, is_name, is_dropped_name, is_alignment, is_kept_kind, is_writable, is_exec, is_alloc, has_bytes}
 use Rattle.elf_model.proofs.Elements.{element_at, place_of}
 use Rattle.code_ranges.proofs.ObjectFacts.{section_sound}
-use Rattle.hardened_form.specs.Sections.{AreSections, IsNewSection, IsKept}
+use Rattle.hardened_form.specs.Sections.{AreSections, IsNewSection}
 use Rattle.branch_layout.proofs.Lists.{get_push_cases}
-use Rattle.emit_object.specs.KeptBytes.{AreCleared, clears, kept_of, AreKept}
+use Rattle.emit_object.specs.KeptBytes.{AreCleared, clears, AreKept}
 use Rattle.emit_object.specs.Laid.{HasCode, HasSizes}
 use Rattle.emit_object.specs.NewSections.{code_section, kept_section, new_section, AreMade, AreNewSections}
 use Rattle.emit_object.proofs.WholeSymbols.{each_of}

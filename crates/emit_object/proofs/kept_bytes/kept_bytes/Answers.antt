@@ -1,5 +1,3 @@
-use Rattle.std.proofs.Common.{◌∙◌, ap}
-use Rattle.std.specs.Prelude.{slice_get}
 use Rattle.emit_object.proofs.KeptFacts.{kept_first, reloc_there, reloc_section, kept_next}
 use Rattle.emit_object.proofs.kept_bytes.kept_bytes.Goals as goal
 

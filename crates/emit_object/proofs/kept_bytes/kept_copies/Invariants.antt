@@ -1,4 +1,4 @@
-use Rattle.std.proofs.Common.{◌≡◌, ◌++◌, ℕ, List, Vec, Global, drop, map}
+use Rattle.std.proofs.Common.{◌≡◌, ◌++◌, ℕ, Vec, Global, drop, map}
 use Rattle.emit_object.specs.KeptBytes.{kept_of}
 use Rattle.emit_object.proofs.kept_bytes.kept_copies.Given as goal
 
