@@ -1,5 +1,5 @@
 -- Why an object is not hardened: the first cause of flow, of liveness, of scratch registers, of the layout.
-use Rattle.std.specs.Prelude.{◌≡◌, ℕ, List, ⊤}
+use Rattle.std.specs.Prelude.{ℕ, List, ⊤}
 use Rattle.elf_model.specs.declared.refusals.Refusal.{Refusal}
 use Rattle.elf_model.specs.declared.refusals.Spot.{Spot}
 use Rattle.elf_model.specs.declared.refusals.Deny.{Deny}

@@ -1,5 +1,5 @@
 -- What hardening makes of an object.
-use Rattle.std.specs.Prelude.{◌≡◌, ℕ, ◌&&◌, ◌==◌, Bool, List, length, count_by}
+use Rattle.std.specs.Prelude.{◌≡◌, ℕ, ◌&&◌, ◌==◌, Bool, length, count_by}
 use Rattle.std.specs.List.{sum_by}
 use Rattle.elf_model.specs.declared.objects.Symbol.{Symbol}
 use Rattle.elf_model.specs.Constants.{func}

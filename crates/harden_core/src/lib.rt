@@ -3,6 +3,7 @@
 
 mod counting;
 mod hardening;
+mod phases;
 
 pub use hardening::{Hardened, harden};
 pub use sim_relation::Setting;

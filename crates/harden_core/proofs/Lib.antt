@@ -1,0 +1,3 @@
+pub mod LongestFacts
+pub mod PhaseFacts
+pub mod ShortUnits
