@@ -1,5 +1,6 @@
 """Writes an object with so many functions, each of which calls the next by a relocation. Usage: calling_object.py COUNT FILE
-[PREFIX [BYTES]]. The names begin with PREFIX, f if it is left out; each function has BYTES, 14 if they are left out."""
+[PREFIX [BYTES [WORDS]]]. The names begin with PREFIX, f if it is left out; each function has BYTES, 14 if they are left out. With
+WORDS there are so many words of data that each have the address of a function."""
 import struct
 import sys
 
@@ -30,6 +31,10 @@ def main():
     rel = b"".join(struct.pack("<II", size * k + 8, k + 3 << 8 | 10) for k in range(count - 1))
     heads = [(b".text", 1, 6, text, 0, 0, 4, 0), (b".rel.text", 9, 0, rel, 3, 1, 4, 8),
              (b".symtab", 2, 0, symtab, 4, 2, 4, 16), (b".strtab", 3, 0, strtab, 0, 0, 1, 0)]
+    words = int(sys.argv[5]) if len(sys.argv) > 5 else 0
+    if words:
+        addresses = b"".join(struct.pack("<II", 4 * k, k % count + 2 << 8 | 2) for k in range(words))
+        heads += [(b".data", 1, 3, bytes(4 * words), 0, 0, 4, 0), (b".rel.data", 9, 0, addresses, 3, 5, 4, 8)]
     write(heads, path)
 
 

@@ -9,6 +9,8 @@ mod files;
 #[cfg(test)]
 mod harden_rows;
 #[cfg(test)]
+mod hardening_rows;
+#[cfg(test)]
 mod image_rows;
 #[cfg(test)]
 mod list_rows;

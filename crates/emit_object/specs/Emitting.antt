@@ -1,5 +1,5 @@
 -- From which layouts a hardened object is made.
-use Rattle.std.specs.Prelude.{◌≡◌, ◌<◌, ◌≤◌, ℕ, true, false, count_by, List, Some, Ok, map, slice_get, slice_index, Contains}
+use Rattle.std.specs.Prelude.{◌≡◌, ◌<◌, ◌≤◌, ℕ, true, false, count_by, length, List, Some, Ok, map, slice_get, slice_index, Contains}
 use Rattle.elf_model.specs.declared.objects.Reloc.{Reloc}
 use Rattle.elf_model.specs.Objects.{ObjectParts}
 use Rattle.reloc_places.specs.Relocations.{is_jump, fits_kind, number_in}
@@ -38,6 +38,7 @@ pub record TakesReloc (o : ObjectParts) (r : Reloc) (s : Step) : Type 0 where
 pub record CanEmit (o : ObjectParts) (f : FlowParts) (l : LayoutParts) : Type 0 where
   pub can : CanLay (units_of l) f.words
   pub layout : IsLayout (units_of l) f.words l
+  pub count : length l.units ≡ length f.points
   pub each : (k : ℕ) (x : Point) (u : PlacedParts) → slice_get f.points k ≡ Some x → slice_get l.units k ≡ Some u → IsUnitAt x u.unit
   pub relocs : (k n : ℕ) (u : PlacedParts) (r : Reloc) (s : Step) → slice_get l.units k ≡ Some u → u.unit.reloc ≡ Some n → slice_get o.relocs n ≡ Some r
       → Contains u.unit.seq.steps s → carries s ≡ true → TakesReloc o r s
