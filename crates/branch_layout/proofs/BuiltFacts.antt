@@ -251,7 +251,7 @@ jump_lead i qs copies of row = absurd (cc)
 
 -- ALL CLASSES
 
-lead : (c : Class) (i : Instr) (qs : List ℕ) (copies : ℕ) → IsOf c i → AreCoded (replaced c copies i qs) → AllLead copies (built c copies i qs)
+pub lead : (c : Class) (i : Instr) (qs : List ℕ) (copies : ℕ) → IsOf c i → AreCoded (replaced c copies i qs) → AllLead copies (built c copies i qs)
 lead class.Twice i qs copies of coded = let q : Series = built class.Twice copies i qs in one_lead q copies (leading copies (own_goal i) i) (twice_lead q copies 0 i of coded.0)
 lead class.Through i (r ∷ []) copies of coded = λ k s e. plains_lead (built class.Through copies i (r ∷ [])) copies k (through_one i r) (one_plain i r (through_plain i of)) coded k s e
 lead class.Through i (a ∷ b ∷ []) copies of coded = λ k s e. plains_lead (built class.Through copies i (a ∷ b ∷ [])) copies k (through_two i a b) (two_plain i a b) coded k s e
@@ -326,7 +326,7 @@ zero_as (instr.ZeroBranch i) copies =
     more_as j (leading copies End inverse) (branches copies ∷ []) (ends_as j inverse copies) (one_as j (branches copies) (branches_as j copies refl))
 zero_as i copies = λ k s e. absurd (none-some s e)
 
-lead_as : (c : Class) (i : Instr) (qs : List ℕ) (copies : ℕ) → IsOf c i → AllLeadAs i (replaced c copies i qs)
+pub lead_as : (c : Class) (i : Instr) (qs : List ℕ) (copies : ℕ) → IsOf c i → AllLeadAs i (replaced c copies i qs)
 lead_as class.Twice i qs copies of = one_as i (leading copies (own_goal i) i) (own_as i copies)
 lead_as class.Through i (r ∷ []) copies of = plains_as i copies (through_one i r)
 lead_as class.Through i (a ∷ b ∷ []) copies of = plains_as i copies (through_two i a b)

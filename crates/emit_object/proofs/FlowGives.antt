@@ -44,7 +44,7 @@ module _ (o : ObjectParts) (f : FlowParts) (sound : is_object o ≡ true) (flow 
       }
 
   -- the relocation of a number at a place stands there
-  stands : (j x k : ℕ) (r : Reloc) → reloc_at o j x ≡ Some k → slice_get o.relocs k ≡ Some r → (r.section ≡ j) × (r.offset ≡ x)
+  pub stands : (j x k : ℕ) (r : Reloc) → reloc_at o j x ≡ Some k → slice_get o.relocs k ≡ Some r → (r.section ≡ j) × (r.offset ≡ x)
   stands j x k r e at =
       let found = position-Some (stands_there j x) o.relocs k r e in
       let same : get_or o.relocs k r ≡ r = same_Some (get_or o.relocs k r) r (sym (slice_get-get_or o.relocs k r found.0) ∙ at) in
@@ -52,14 +52,14 @@ module _ (o : ObjectParts) (f : FlowParts) (sound : is_object o ≡ true) (flow 
       (eqb-true r.section j both.0, eqb-true r.offset x both.1)
 
   -- a point's relocation is the one at its place
-  of_point : (q : ℕ) (x : Point) → slice_get f.points q ≡ Some x → x.reloc ≡ reloc_at o x.section x.offset
+  pub of_point : (q : ℕ) (x : Point) → slice_get f.points q ≡ Some x → x.reloc ≡ reloc_at o x.section x.offset
   of_point q x at =
       let low : q < length flow.nodes = omega (arith, slice_get_within f.points q x at, flow.count) in
       let n = element_at flow.nodes q low in
       let is = flow.points q n.0 x n.1 at in
       is.reloc ∙ ap (λ (j : ℕ). reloc_at o j n.0.offset) (sym is.section) ∙ ap (λ (y : ℕ). reloc_at o x.section y) (sym is.offset)
 
-  of_word : (w : PoolWord) → Contains f.words w → w.reloc ≡ reloc_at o w.section w.offset
+  pub of_word : (w : PoolWord) → Contains f.words w → w.reloc ≡ reloc_at o w.section w.offset
   of_word w here = let is = (flow.words w).0 here in is.reloc
 
   module _ (k : ℕ) (r : Reloc) (at : slice_get o.relocs k ≡ Some r) where

@@ -1,5 +1,6 @@
 -- The numbers of symbols, the functions of targets, and the whole list.
-use Rattle.std.proofs.Common.{◌≡◌, ◌<◌, ◌^◌, ℕ, zero, suc, ◌+◌, Bool, true, false, cond, List, [], ◌∷◌, ◌++◌, length, map, filter, take, refl, sym, ap, ◌∙◌, arith, Option, Some, None}
+use Rattle.std.proofs.Common.{◌≡◌, ◌<◌, ◌^◌, ℕ, zero, suc, ◌+◌, Bool, true, false, cond, List, [], ◌∷◌, ◌++◌, length, map, filter, take, refl, sym, ap, ◌∙◌, subst, arith, Option, Some, None}
+use Rattle.std.specs.List.Sorted.{IsStrictlySortedBy}
 use Rattle.std.specs.Prelude.{slice_get, slice_index, Contains, count_by, ◌==◌, not}
 use Rattle.std.proofs.lemmas.Bool.{true≢false, and_parts}
 use Rattle.std.proofs.lemmas.Option.{none-some, same_Some, slice_get_within}
@@ -13,12 +14,13 @@ use Rattle.elf_model.specs.Objects.{ObjectParts}
 use Rattle.elf_model.proofs.Lists.{count_cons}
 use Rattle.elf_model.proofs.Elements.{map_contains, contains_here, contains_later}
 use Rattle.code_ranges.specs.CodeRanges.{holds_code}
+use Rattle.code_ranges.specs.Spans.{place_cmp}
 use Rattle.reloc_places.specs.Relocations.{is_in_code}
 use Rattle.flow_recover.specs.Flows.{FlowParts}
 use Rattle.seq_core.specs.Places.{LayoutParts}
 use Rattle.hardened_form.specs.Items.{Item}
 use Rattle.hardened_form.specs.Rows.{ordinal}
-use Rattle.hardened_form.specs.Turns.{turns_by, is_direct, AreTargets}
+use Rattle.hardened_form.specs.Turns.{turns_by, is_direct, place_of_target, AreTargets}
 use Rattle.hardened_form.specs.MappingSymbols.{Mapping, AreMappings, mapping_symbol}
 use Rattle.hardened_form.specs.Symbols.{Lists, moved, stays, is_shared, target_symbol}
 use Rattle.hardened_form.specs.Relocs.{first_target, first_shared}
@@ -62,6 +64,14 @@ target_within o f places are p here =
     go : (e : Option Section) → slice_get o.sections p.0 ≡ e → holds_code e ≡ true → p.0 < length o.sections
     go None e c = absurd (true≢false (sym c))
     go (Some s) e c = slice_get_within o.sections p.0 s e
+
+-- the places of targets rise
+pub places_rise : (o : ObjectParts) (f : FlowParts) (places : List (ℕ × ℕ)) → AreTargets o f (map target_at places) → IsStrictlySortedBy place_cmp places
+places_rise o f places are = subst (IsStrictlySortedBy place_cmp) (back places) are.rise
+  where
+    back : (ps : List (ℕ × ℕ)) → map place_of_target (map target_at ps) ≡ ps
+    back [] = refl
+    back (p ∷ ps) = ap (λ (l : List (ℕ × ℕ)). p ∷ l) (back ps)
 
 -- the functions of targets are those of the definition
 pub functions_are : (o : ObjectParts) (items : List Item) (places : List (ℕ × ℕ)) → ((p : ℕ × ℕ) → Contains places p → p.0 < length o.sections)

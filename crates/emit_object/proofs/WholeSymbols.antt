@@ -46,23 +46,25 @@ use Rattle.emit_object.proofs.MoveFacts.{is_place}
 use Rattle.emit_object.proofs.SymbolNames.{target_names, is_local, locals_come_first}
 use Rattle.emit_object.proofs.SoundSymbols.{is_whole, place_home, at_home, section_begins, moved_sound, kept_placed, HasPlace}
 
-each_of : {X : Type 0} (p : X → Bool) (xs : List X) → ((x : X) → Contains xs x → p x ≡ true) → list_all p xs ≡ true
+pub each_of : {X : Type 0} (p : X → Bool) (xs : List X) → ((x : X) → Contains xs x → p x ≡ true) → list_all p xs ≡ true
 each_of p [] all = refl
 each_of p (x ∷ xs) all = and_from (p x) (list_all p xs) (all x (contains_here x xs)) (each_of p xs (λ y h. all y (contains_later x xs y h)))
 
--- a shared symbol of code is at a point
-module _ (o : ObjectParts) (f : FlowParts) (flow : IsFlow o f) (rise : PointsRise f) (l : LayoutParts) (matches : Matches f l) (items : List Item) (are : AreItemsOf f l items) where
-  pub shared_placed : (s : Symbol) → Contains o.symbols s → is_shared s ≡ true → HasPlace o items s
-  shared_placed s here shared j home code =
+-- a function of code, and a shared symbol, is at a point
+module _ (o : ObjectParts) (f : FlowParts) (flow : IsFlow o f) (rise : PointsRise f) (l : LayoutParts) (count : length l.units ≡ length f.points) (items : List Item) (are : AreItemsOf f l items) where
+  pub entry_placed : (s : Symbol) → Contains o.symbols s → is_entry s ≡ true → (j : ℕ) → s.home ≡ homes.Section j → is_in_code o s.home ≡ true → is_some (new_place items j (even s.value)) ≡ true
+  entry_placed s here enters j home code =
       let k = place_of o.symbols s here in
       let x = even s.value in
-      let enters : is_entry s ≡ true = or (s.kind == func) in
       let node = place_of flow.nodes (node_at j x) (flow.entered j x (named j x (by_symbol k.0 s k.1 home code enters refl refl refl))) in
       let p = element_at f.points node.0 (let low = slice_get_within flow.nodes node.0 (node_at j x) node.1 in let count = flow.count in omega (arith, low, count)) in
       let is = flow.points node.0 (node_at j x) p.0 node.1 p.1 in
       let at : IsPointAt f j x node.0 = record { point = p.0; there = p.1; section = is.section; offset = is.offset } in
-      let u = element_at l.units node.0 (let low = slice_get_within f.points node.0 p.0 p.1 in let count = matches.units in omega (arith, low, count)) in
-      inl (ap is_some (sym (is_place f l j x items are rise node.0 u.0 at u.1)))
+      let u = element_at l.units node.0 (let low = slice_get_within f.points node.0 p.0 p.1 in omega (arith, low, count)) in
+      ap is_some (sym (is_place f l j x items are rise node.0 u.0 at u.1))
+
+  pub shared_placed : (s : Symbol) → Contains o.symbols s → is_shared s ≡ true → HasPlace o items s
+  shared_placed s here shared j home code = inl (entry_placed s here (or (s.kind == func)) j home code)
     where
       or : (b : Bool) → (b || not (s.bind == local)) ≡ true
       or true = refl
@@ -145,7 +147,7 @@ module _ (o h : ObjectParts) (rows : List MapRow) (sections : AreSections o h ro
       shared_sound = each_of test shared (λ x c.
           let m = contains_map (moved o h items) (filter is_shared o.symbols) x c in
           let t = contains_filter is_shared o.symbols m.0 m.1 in
-          ap test (sym m.2) ∙ moved_sound o h rows sections f (places_of l) items inside m.0 (old_sound m.0 t.0) (shared_placed o f flow rise l matches items are m.0 t.0 t.1))
+          ap test (sym m.2) ∙ moved_sound o h rows sections f (places_of l) items inside m.0 (old_sound m.0 t.0) (shared_placed o f flow rise l matches.units items are m.0 t.0 t.1))
 
       mappings_sound : list_all test (map mapping_symbol lists.mappings) ≡ true
       mappings_sound = each_of test (map mapping_symbol lists.mappings) (λ x c.

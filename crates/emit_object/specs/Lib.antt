@@ -15,3 +15,10 @@ pub mod NewSymbolNumbers
 pub mod NewSections
 pub mod UnitCopies
 pub mod Emitting
+pub mod CodePieces
+pub mod CodeBytes
+pub mod NewCode
+pub mod SmallUnits
+pub mod RelocSites
+pub mod SitesInOrder
+pub mod MadeRelocs

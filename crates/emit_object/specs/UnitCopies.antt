@@ -1,5 +1,5 @@
 -- The copies of a unit's steps as they stand, and which of them carry the relocation of the unit's point.
-use Rattle.std.specs.Prelude.{◌≡◌, ℕ, ◌+◌, ◌×◌, ◌||◌, Bool, true, false, List, [], ◌∷◌, map, filter, slice_get, Some, Contains}
+use Rattle.std.specs.Prelude.{◌≡◌, ℕ, ◌+◌, ◌||◌, Bool, true, false, List, [], ◌∷◌, map, filter, slice_get, Some, Contains}
 use Rattle.elf_model.specs.Fields.{half_at}
 use Rattle.elf_model.specs.Objects.{ObjectParts}
 use Rattle.thumb_instr.specs.declared.instructions.Instr.{Instr}

@@ -37,7 +37,7 @@ fn has_point(f: &Flow, section: u32, offset: u32) -> bool
 }
 
 /// Whether a section is there and has no code.
-fn has_data(o: &Object, section: u32) -> bool
+pub(crate) fn has_data(o: &Object, section: u32) -> bool
     ensures { result ≡ has_data_in (slice_get o.now.sections section) }
 {
     match o.sections().get(section as usize) {

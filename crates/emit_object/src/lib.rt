@@ -1,6 +1,8 @@
 //! The hardened object: tables and bytes for a layout.
 #![tactic(auto)]
 
+mod code_bytes;
+mod code_pieces;
 mod first_items;
 mod lasting;
 mod map_section;
@@ -12,9 +14,13 @@ mod new_relocs;
 mod new_sections;
 mod new_symbols;
 mod numbers;
+mod reloc_sites;
+mod reloc_table;
 mod rows;
 mod target_symbols;
 mod targets;
 mod turns;
 mod word_numbers;
 mod word_places;
+
+pub use turns::is_turned;

@@ -157,6 +157,8 @@ pub(crate) fn new_symbols(
     requires small { All (λ w. w.1 + 4 < 2 ^ 32) (map pool_place (zip f.now.words l.now.words) ++ islands l.now.units) }
     ensures symbols { IfOk result (λ n. (h : ObjectParts) (items : List Item) → HasSizes o.now h l.now.sizes → AreItemsOf f.now l.now items → AreNewSymbols o.now h f.now l.now items n.list.items n.targets.items n.first_target n.numbers.items) }
     ensures sound { IfOk result (λ n. (h : ObjectParts) (items : List Item) (rows : List MapRow) → HasSizes o.now h l.now.sizes → AreItemsOf f.now l.now items → AreSections o.now h rows → LieInside h f.now (places_of l.now) items → IsTrue (list_all (is_symbol h.sections) n.list.items && locals_first n.list.items)) }
+    ensures rise { IfOk result (λ n. IsStrictlySortedBy place_cmp n.targets.items) }
+    ensures numbered { IfOk result (λ n. n.first_target + length n.targets.items < 2 ^ 32) }
     ensures few { IfOk result (λ n. (h : ObjectParts) (items : List Item) → HasSizes o.now h l.now.sizes → AreItemsOf f.now l.now items → length n.list.items ≤ length o.now.symbols + length o.now.sections + 2 * (length f.now.words + length (islands l.now.units)) + length o.now.relocs) }
 {
     o.sound();

@@ -35,7 +35,7 @@ fn is_direct(o: &Object, r: &Reloc, s: &Symbol) -> bool
 }
 
 /// Whether a relocation leads into code in another way.
-pub(crate) fn is_turned(o: &Object, r: &Reloc) -> bool
+pub fn is_turned(o: &Object, r: &Reloc) -> bool
     requires { IsReadable o.now r.now }
     ensures { result ≡ is_turned_by o.now r.now }
 {

@@ -1,5 +1,5 @@
 -- The law that what is made of an object by way of units and their layout is paired with it.
-use Rattle.std.specs.Prelude.{◌≡◌, ◌⊎◌, ◌≤◌, ℕ, ◌*◌, true, List, length, Some, slice_get, Contains, IsTrue}
+use Rattle.std.specs.Prelude.{◌≡◌, ◌⊎◌, ◌≤◌, ℕ, length, Contains, IsTrue}
 use Rattle.elf_model.specs.declared.refusals.TheConstants.Limit.{INPUT}
 use Rattle.elf_model.specs.Objects.{ObjectParts, is_object, is_within}
 use Rattle.flow_recover.specs.Flows.{FlowParts}

@@ -2,8 +2,12 @@
 
 ghost use Rattle.pair_parts.specs.Made.{MadeArePaired};
 
+use unit_work::units_work;
+
 /// What is made of an object by way of units and their layout is paired with it, by the instructions of the longest
 /// unit.
 pub fn made_are_paired()
     ensures { MadeArePaired }
-{}
+{
+    units_work();
+}

@@ -3,3 +3,7 @@ pub mod GuardFacts
 pub mod ShortFacts
 pub mod UnitFacts
 pub mod LackFacts
+pub mod OutsideRows
+pub mod LeftFacts
+pub mod FlowRows
+pub mod TargetFacts

@@ -1,10 +1,11 @@
-//! From an object to its hardened form, step by step: which registers sequences may spoil, and the units of
-//! points.
+//! Which registers sequences may spoil, and the units of a flow's points.
 #![tactic(auto)]
 
 mod building;
 mod lacks;
+mod left;
 mod scratch;
+mod targets;
 mod units;
 
 pub use units::units_of;

@@ -9,7 +9,7 @@ use Rattle.emit_object.specs.MovedSymbols.{numbers_from}
 use Rattle.flow_recover.proofs.FlowPoints.{points_rise}
 use Rattle.emit_object.specs.RowLists.{ordinals_from}
 use Rattle.emit_object.proofs.RowTurns.{ordinals_length}
-use Rattle.emit_object.proofs.NumberFacts.{target_within, are_new_symbols}
+use Rattle.emit_object.proofs.NumberFacts.{target_within, places_rise, are_new_symbols}
 use Rattle.emit_object.proofs.FewSymbols.{symbols_few}
 use Rattle.emit_object.proofs.WholeSymbols.{sound_list}
 use Rattle.emit_object.proofs.new_symbols.new_symbols.Goals as goal
@@ -66,3 +66,9 @@ pub returns-clause-few : goal.returns-clause-few
 returns-clause-few c = λ h items sized are.
     symbols_few c.args.o.now h c.args.f.now c.args.l.now items c.push_shared.new.list.items c.in_ok-targets.targets.items c.in_ok-first_target.first_target c.in_ok-numbers.numbers.items
     (returns-clause-symbols c h items sized are) c.requires.matches sized
+
+pub returns-clause-rise : goal.returns-clause-rise
+returns-clause-rise c = places_rise c.args.o.now c.args.f.now c.in_ok-targets.targets.items c.in_ok-targets.ensures
+
+pub returns-clause-numbered : goal.returns-clause-numbered
+returns-clause-numbered c = let ok = c.in_ok-targets.targets.ok in let more = c.len-2.ensures in let below = c.in_ok-first_target.ensures.few in omega (arith, below, more, ok)

@@ -23,5 +23,5 @@ loop-p-preserved c =
     let here : slice_get points c.loop-p.p ≡ Some c.x-item.result = read_there points points c.loop-p.p c.x-item.result refl low c.x-item.is in
     let there = subst (λ (l : List Point). slice_get l c.loop-p.p ≡ Some c.x-item.result) c.points-x-items.ensures here in
     let live = live_is c.args.f.now c.args.b.now c.args.l.now c.requires.live c.x-item.result c.after-live.result (c.after-live.ensures c.x-item.result there) in
-    unit_more c.args.f.now c.args.b.now c.args.copies c.args.f.now.points c.loop-p.p c.loop-p.units.items c.push.new.self.items c.x-item.result c.in_ok-unit_at.field-0 there
-    (c.in_ok-unit_at.ensures c.args.f.now c.args.b.now live) c.in_ok-push.ensures.items c.loop-p.invariant
+    unit_more c.args.o.now c.args.f.now c.args.b.now c.args.copies c.args.f.now.points c.loop-p.p c.loop-p.units.items c.push.new.self.items c.x-item.result c.in_ok-unit_at.field-0 there
+    (c.in_ok-unit_at.ensures c.args.b.now live) c.in_ok-push.ensures.items c.loop-p.invariant

@@ -1,0 +1,14 @@
+pub mod CopyFacts
+pub mod PointFacts
+pub mod ItemFacts
+pub mod LaidUnits
+pub mod PlaceFacts
+pub mod CarrierFacts
+pub mod SequenceFacts
+pub mod SpareFacts
+pub mod KeptRelocs
+pub mod BackFacts
+pub mod MadePaired
+pub mod UnitBytes
+pub mod OldStretches
+pub mod Growth

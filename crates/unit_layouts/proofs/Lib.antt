@@ -1,0 +1,13 @@
+pub mod PointFacts
+pub mod FewWords
+pub mod RightInstrs
+pub mod Targets
+pub mod Behind
+pub mod BytesFacts
+pub mod CarrierFacts
+pub mod LeftFacts
+pub mod SequenceFacts
+pub mod LaidUnits
+pub mod CarriedFacts
+pub mod Inside
+pub mod EmittedUnits

@@ -1,0 +1,14 @@
+pub mod Made
+pub mod Linked
+pub mod Covered
+pub mod Empty
+pub mod Stood
+pub mod Reaching
+pub mod Halves
+pub mod Flowing
+pub mod Fitting
+pub mod LinkedDo
+pub mod LaidUnits
+pub mod Meaning
+pub mod UnitStands
+pub mod Working
