@@ -26,6 +26,7 @@ use Rattle.guard_cli.specs.Texts.{Tally, greatest_factor}
 use Rattle.guard_cli.specs.Works.{Save, Contents, AreLoaded, inputs_of}
 use Rattle.guard_cli.proofs.Carried.{loaded_whole}
 use Rattle.guard_cli.proofs.InputObjects.{is_input}
+use Rattle.guard_cli.proofs.WholePick.{whole_pick}
 
 abbrev pair_of : Part → Pair
 pair_of p = p.pair
@@ -233,10 +234,14 @@ pub harden_promised : (pairs : List Pair) (files : List (List ℕ)) (saves : Lis
     → AreLoaded old.content (inputs_of INPUT.file (map input_of pairs)) files → AreSaved saves old new → IsHardenPromised pairs files saves said old.content new.content
 harden_promised pairs files saves said old new made told loaded saved = record {
   made = made;
-  hardened = λ picked pick.
-      picked_hardened made.parts made.each old new told
-      (subst (λ (l : List (List ℕ)). AreLoaded old.content (inputs_of INPUT.file (map input_of (map pair_of made.parts))) l) (sym made.files_are)
-      (subst (λ (l : List Pair). AreLoaded old.content (inputs_of INPUT.file (map input_of l)) files) (sym made.pairs_are) loaded))
-      (subst (λ (l : List Save). AreSaved l old new) made.saves_are saved)
-      picked (subst (λ (l : List Pair). IsPick l picked) (sym made.pairs_are) pick);
+  hardened = of_pick;
+  whole = λ differ. of_pick pairs (whole_pick pairs differ);
 }
+  where
+    of_pick : (picked : List Pair) → IsPick pairs picked → AreHardened picked old.content new.content (factor made.parts made.each)
+    of_pick picked pick =
+        picked_hardened made.parts made.each old new told
+        (subst (λ (l : List (List ℕ)). AreLoaded old.content (inputs_of INPUT.file (map input_of (map pair_of made.parts))) l) (sym made.files_are)
+        (subst (λ (l : List Pair). AreLoaded old.content (inputs_of INPUT.file (map input_of l)) files) (sym made.pairs_are) loaded))
+        (subst (λ (l : List Save). AreSaved l old new) made.saves_are saved)
+        picked (subst (λ (l : List Pair). IsPick l picked) (sym made.pairs_are) pick)

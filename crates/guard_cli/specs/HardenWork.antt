@@ -16,7 +16,7 @@ use Rattle.harden_core.specs.Denials.{IsHardenRefusal}
 use Rattle.harden_core.specs.Hardening.{IsHardening}
 use Rattle.guard_words.specs.Words.{Pair}
 use Rattle.guard_cli.specs.Inputs.{IsReadAs, AreReadAs, IsReadRefusal, in_file}
-use Rattle.guard_cli.specs.Promise.{IsPick, AreHardened}
+use Rattle.guard_cli.specs.Promise.{IsPick, OutputsDiffer, AreHardened}
 use Rattle.guard_cli.specs.Texts.{Tally, greatest_factor, report}
 use Rattle.guard_cli.specs.Works.{Save, Contents, Work, inputs_of}
 
@@ -105,6 +105,8 @@ pub record IsHardenMade (pairs : List Pair) (files : List (List ℕ)) (saves : L
 pub record IsHardenPromised (pairs : List Pair) (files : List (List ℕ)) (saves : List Save) (said : List ℕ) (before after : Contents) : Type 0 where
   pub made : IsHardenMade pairs files saves said
   pub hardened : (picked : List Pair) → IsPick pairs picked → AreHardened picked before after (greatest_factor (map tally_of made.parts))
+  -- all of them in their order, where each output has a name of its own
+  pub whole : OutputsDiffer pairs → AreHardened pairs before after (greatest_factor (map tally_of made.parts))
 
 abbrev pub harden_work : List Pair → Work
 harden_work pairs = record {

@@ -29,6 +29,9 @@ pub record IsPick (pairs picked : List Pair) : Type 0 where
   pub differ : AllPairs (λ j k. j ≢ k) places
   pub are : ArePlaced pairs places picked
 
+abbrev pub OutputsDiffer : List Pair → Type 0
+OutputsDiffer pairs = AllPairs (λ (p q : Pair). p.output ≢ q.output) pairs
+
 -- The objects that the inputs stood for, and those that the outputs stand for, are the same, hardened.
 pub record AreHardened (picked : List Pair) (before after : List ℕ → Option (List ℕ)) (F : ℕ) : Type 0 where
   pub ins : List ObjectParts
