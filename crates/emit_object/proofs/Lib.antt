@@ -17,6 +17,9 @@ pub mod SoundSymbols
 pub mod WholeSymbols
 pub mod FewSymbols
 pub mod NewRelocFacts
+pub mod KeptFacts
+pub mod SectionFacts
+pub mod LayoutGives
 pub mod CodeReads
 pub mod PutFacts
 pub mod StandApart
@@ -33,3 +36,6 @@ pub mod SitesApart
 pub mod SitesAre
 pub mod CarriedFacts
 pub mod SoundRelocs
+pub mod InsideFacts
+pub mod FormFacts
+pub mod EmitFacts

@@ -27,7 +27,7 @@ use Rattle.emit_object.specs.Laid.{Matches, HasSizes}
 use Rattle.emit_object.proofs.MarkFacts.{in_one, one_in, in_marks, marks_in, in_first, first_in}
 
 -- what passes a test
-any_is : {X : Type 0} (test : X → Bool) (xs : List X) → list_any test xs ≡ true → (w : X) × (Contains xs w × (test w ≡ true))
+pub any_is : {X : Type 0} (test : X → Bool) (xs : List X) → list_any test xs ≡ true → (w : X) × (Contains xs w × (test w ≡ true))
 any_is test [] h = absurd (true≢false (sym h))
 any_is test (x ∷ xs) h = elim (or_cases (test x) (list_any test xs) h) [
   | inl t ↦ (x, (contains_here x xs, t))
@@ -60,7 +60,7 @@ not_true true e = absurd (true≢false (sym e))
 not_true false e = refl
 
 module _ (j y : ℕ) where
-  pool_to : (es : List (PoolWord × ℕ)) → Contains (flat_map (pool_word_in j) es) y → Contains (map pool_place es) (j, y)
+  pub pool_to : (es : List (PoolWord × ℕ)) → Contains (flat_map (pool_word_in j) es) y → Contains (map pool_place es) (j, y)
   pool_to [] h = absurd (contains_none y h)
   pool_to (e ∷ es) h = elim (Contains-append_cases (pool_word_in j e) (flat_map (pool_word_in j) es) y h) [
     | inl m ↦ go (e.0.section == j) refl m
@@ -109,7 +109,7 @@ module _ (j y : ℕ) where
   abbrev Alike : List Point → List PlacedParts → Type 0
   Alike xs us = (k : ℕ) (x : Point) (u : PlacedParts) → slice_get xs k ≡ Some x → slice_get us k ≡ Some u → u.unit.section ≡ x.section
 
-  islands_to : (xs : List Point) (us : List PlacedParts) → Alike xs us → Contains (flat_map (island_in j) (zip xs (map unit_place us))) y → Contains (islands us) (j, y)
+  pub islands_to : (xs : List Point) (us : List PlacedParts) → Alike xs us → Contains (flat_map (island_in j) (zip xs (map unit_place us))) y → Contains (islands us) (j, y)
   islands_to [] us same h = absurd (contains_none y h)
   islands_to (x ∷ xs) [] same h = absurd (contains_none y h)
   islands_to (x ∷ xs) (u ∷ us) same h = elim (Contains-append_cases (island_in j (x, unit_place u)) (flat_map (island_in j) (zip xs (map unit_place us))) y h) [

@@ -18,7 +18,7 @@ use Rattle.branch_layout.specs.Laid.{laid_place as unit_place, laid_places as pl
 
 -- pairs by their numbers
 module _ {X Y : Type 0} where
-  zip_index : (xs : List X) (ys : List Y) (e : X × Y) → Contains (zip xs ys) e → (k : ℕ) × ((slice_get xs k ≡ Some e.0) × (slice_get ys k ≡ Some e.1))
+  pub zip_index : (xs : List X) (ys : List Y) (e : X × Y) → Contains (zip xs ys) e → (k : ℕ) × ((slice_get xs k ≡ Some e.0) × (slice_get ys k ≡ Some e.1))
   zip_index [] ys e h = absurd (contains_none e h)
   zip_index (x ∷ xs) [] e h = absurd (contains_none e h)
   zip_index (x ∷ xs) (y ∷ ys) e h = elim (contains_cases (x, y) (zip xs ys) e h) [
@@ -26,7 +26,7 @@ module _ {X Y : Type 0} where
     | inr m ↦ let q = zip_index xs ys e m in (suc q.0, (q.1.0, q.1.1))
   ]
 
-  index_zip : (xs : List X) (ys : List Y) (k : ℕ) (x : X) (y : Y) → slice_get xs k ≡ Some x → slice_get ys k ≡ Some y → Contains (zip xs ys) (x, y)
+  pub index_zip : (xs : List X) (ys : List Y) (k : ℕ) (x : X) (y : Y) → slice_get xs k ≡ Some x → slice_get ys k ≡ Some y → Contains (zip xs ys) (x, y)
   index_zip [] ys k x y a b = absurd (none-some x a)
   index_zip (v ∷ xs) [] k x y a b = absurd (none-some y b)
   index_zip (v ∷ xs) (w ∷ ys) zero x y a b =
@@ -48,7 +48,7 @@ module _ (f : FlowParts) (l : LayoutParts) (j x : ℕ) (items : List Item) (are 
   us = map unit_place l.units
 
   -- an item of a unit at this place is of a point there
-  record UnitAt (it : Item) : Type 0 where
+  pub record UnitAt (it : Item) : Type 0 where
     pub index : ℕ
     pub point : Point
     pub there : slice_get f.points index ≡ Some point
@@ -58,7 +58,7 @@ module _ (f : FlowParts) (l : LayoutParts) (j x : ℕ) (items : List Item) (are 
     pub laid : slice_get l.units index ≡ Some unit
     pub new : it.new ≡ unit.start
 
-  unit_at : (it : Item) → Contains items it → is_unit_of j x it ≡ true → UnitAt it
+  pub unit_at : (it : Item) → Contains items it → is_unit_of j x it ≡ true → UnitAt it
   unit_at it here is = elim (Contains-append_cases (map item_of_unit (zip (old_points f) us)) (map item_of_word (zip (old_words f) l.words)) it ((are.same it).0 here)) [
     | inl a ↦
         let e = contains_map item_of_unit (zip (old_points f) us) it a in

@@ -83,13 +83,13 @@ module _ (o : ObjectParts) (f : FlowParts) (sound : is_object o ≡ true) (withi
   number j = get_or (ordinals_from 0 o.sections) j 0
 
   -- where a point stands: in a section of code, whole
-  record At (x : Point) : Type 0 where
+  pub record At (x : Point) : Type 0 where
     pub end : ℕ
     pub start : IsCodeStart o x.section (bytes_of o x.section) x.offset end
     pub ends : end_of x ≡ x.offset + length_at (bytes_of o x.section) x.offset
     pub whole : x.offset + length_at (bytes_of o x.section) x.offset ≤ end
 
-  point_at : (q : ℕ) (x : Point) → slice_get f.points q ≡ Some x → At x
+  pub point_at : (q : ℕ) (x : Point) → slice_get f.points q ≡ Some x → At x
   point_at q x at =
       let low : q < length flow.nodes = omega (arith, slice_get_within f.points q x at, flow.count) in
       let n = element_at flow.nodes q low in

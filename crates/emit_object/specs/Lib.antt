@@ -12,6 +12,7 @@ pub mod Numbering
 pub mod MovedSymbols
 pub mod LieInside
 pub mod NewSymbolNumbers
+pub mod KeptBytes
 pub mod NewSections
 pub mod UnitCopies
 pub mod Emitting

@@ -3,7 +3,9 @@
 
 mod code_bytes;
 mod code_pieces;
+mod emitting;
 mod first_items;
+mod kept_bytes;
 mod lasting;
 mod map_section;
 mod mapping;
@@ -23,4 +25,5 @@ mod turns;
 mod word_numbers;
 mod word_places;
 
+pub use emitting::emit;
 pub use turns::is_turned;

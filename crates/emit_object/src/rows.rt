@@ -1,6 +1,6 @@
 //! The rows of the address map.
 
-ghost use Rattle.std.specs.Prelude.{◌≡◌, ◌+◌, ◌<◌, ◌^◌, ◌++◌, ℕ, All, None, map, length, IfOk, OnOk, IsTrue, slice_index};
+ghost use Rattle.std.specs.Prelude.{◌≡◌, ◌+◌, ◌*◌, ◌<◌, ◌≤◌, ◌^◌, ◌++◌, ℕ, All, None, map, length, IfOk, OnOk, IsTrue, slice_index};
 ghost use Rattle.std.specs.List.{zip};
 ghost use Rattle.elf_model.specs.Objects.{is_within};
 ghost use Rattle.flow_recover.specs.Points.{end_of as end_of_point};
@@ -146,7 +146,8 @@ pub(crate) fn rows(
     requires flow { IsFlow o.now f.now }
     requires count { length l.now.units ≡ length f.now.points }
     requires units { All UnitFits l.now.units }
-    ensures { IfOk result (λ rows. AreRows o.now f.now (places_of l.now) rows.items) }
+    ensures exact { IfOk result (λ rows. AreRows o.now f.now (places_of l.now) rows.items) }
+    ensures few { IfOk result (λ rows. length rows.items ≤ 2 * length f.now.points) }
 {
     o.sound();
     let numbers = ordinals(alloc, o.sections())?;
