@@ -13,8 +13,6 @@ const REPORT_OF_ONE_DROPPED: &str =
 
 const NOT_ELF: &str = "a.o: refused 1 NotElf section 0 offset 0\n";
 
-const NOT_YET: &str = "a.o: refused 32 NotYet section 0 offset 0\n";
-
 const SIXTEEN_PAIRS: &str =
     "harden a.o b.o a b a b a b a b a b a b a b a b a b a b a b a b a b a b a b";
 
@@ -38,14 +36,18 @@ fn hardens_files(rt: HostRuntime) -> Result<(), Fail> {
     Ok(())
 }
 
+/// A file without code is hardened too. What is saved is not looked at.
 #[test]
-fn refuses_other_files(rt: HostRuntime) -> Result<(), Fail> {
-    let mut adding = PLAIN;
-    adding[52] = 0x01;
-    adding[53] = 0x30;
-    let want = (1, NOT_YET, None);
-    makes(&rt, rt.alloc(), &adding, want)?;
-    makes(&rt, rt.alloc(), &without_sections(), want)
+fn hardens_files_without_sections(rt: HostRuntime) -> Result<(), Fail> {
+    let text =
+        "b.o: 0 functions, 0 -> 0 instructions, 0 -> 0 bytes, 0 dropped, factor 1\nfactor 1\n";
+    let call = Call {
+        words: "harden a.o b.o",
+        files: &[("a.o", &without_sections())],
+        shelf_fails: &[],
+        sink_fails: &[],
+    };
+    answers(&rt, rt.alloc(), &call, "a file of no pair", (0, text, None))
 }
 
 #[test]
@@ -86,8 +88,13 @@ fn tells_what_failed(rt: HostRuntime) -> Result<(), Fail> {
         ),
         ("harden a.o b.o", second, first, (3, "", old)),
         ("harden a.o b.o", none, first, (3, "", Some(&HARDENED))),
-        ("harden a.o b.o c.o d.o", first, none, (1, NOT_YET, old)),
-        (SIXTEEN_PAIRS, first, none, (1, NOT_YET, old)),
+        (
+            "harden a.o b.o c.o d.o",
+            first,
+            none,
+            (3, "a.o: read fault\n", old),
+        ),
+        (SIXTEEN_PAIRS, first, none, (3, "a.o: read fault\n", old)),
     ];
     for (words, shelf_fails, sink_fails, want) in rows {
         let call = Call {

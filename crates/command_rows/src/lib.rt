@@ -15,6 +15,8 @@ mod image_rows;
 #[cfg(test)]
 mod list_rows;
 #[cfg(test)]
+mod pair_rows;
+#[cfg(test)]
 mod relocated_files;
 #[cfg(test)]
 mod relocated_rows;

@@ -19,11 +19,7 @@ fn says(rt: &impl Abort, alloc: Global, words: &str, status: u8, text: &str) -> 
 /// What each line says, where a name or a number of it shows.
 const COMMANDS: [(&str, u8, &str); 11] = [
     ("list help", 3, "help: read fault\n"),
-    (
-        "harden a.o b.o c.o d.o",
-        1,
-        "a.o: refused 32 NotYet section 0 offset 0\n",
-    ),
+    ("harden a.o b.o c.o d.o", 3, "c.o: read fault\n"),
     (
         "link --room=0x80000 --base=0 i.bin b.o",
         0,
@@ -186,10 +182,9 @@ fn with_inputs(
 
 #[test]
 fn takes_sixteen_inputs_at_most(rt: HostRuntime) -> Result<(), Fail> {
-    let not_yet = (1, "a: refused 32 NotYet section 0 offset 0\n");
     let unread = (3, "a: read fault\n");
     for (start, input, (status, text)) in [
-        ("harden", " a b", not_yet),
+        ("harden", " a b", unread),
         ("link --base 0 --room 64 o", " a", unread),
         ("run --base 0 --room 64 --entry f --steps 1", " a", unread),
     ] {

@@ -1,18 +1,19 @@
--- The works of `link` and of `list`: what is accepted is not refused.
+-- The works of `harden`, `link` and `list`: what is accepted is not refused.
 use Rattle.std.proofs.Common.{◌≡◌, ◌≤◌, inl, inr, ℕ, true, List, [], ◌∷◌, ◌++◌, length, refl, subst, arith}
-use Rattle.std.specs.Prelude.{All}
+use Rattle.std.specs.Prelude.{All, Some, slice_get}
 use Rattle.std.specs.List.{list_all}
 use Rattle.std.proofs.lemmas.Bool.{and_from}
 use Rattle.std.proofs.lemmas.List.Elements.{All-nil, All-cons, All-head, All-tail}
 use Rattle.elf_model.specs.declared.refusals.Spot.{Spot}
 use Rattle.elf_model.specs.declared.refusals.Limit.{Limit}
-use Rattle.elf_model.specs.declared.refusals.TheConstants.Limit.{ANY}
+use Rattle.elf_model.specs.declared.refusals.TheConstants.Limit.{ANY, INPUT}
 use Rattle.elf_model.specs.Objects.{ObjectParts, is_object}
 use Rattle.elf_model.proofs.OneObject.{only_one_object}
 use Rattle.thumb_table.specs.declared.placements.Placement.{Placement}
 use Rattle.thumb_table.specs.LinkFaults.{IsLinkRefusal}
 use Rattle.elf_read.specs.Faults.{IsFaultless}
 use Rattle.guard_cli.specs.Inputs.{IsReadAs, AreReadAs, IsReadRefusal}
+use Rattle.guard_cli.specs.HardenWork.{AreHardenable, IsHardenInputRefusal}
 use Rattle.guard_cli.specs.LinkWork.{AreOf, IsLinkInputRefusal, HaveImage}
 use Rattle.guard_cli.specs.ListWork.{IsListRefusal, IsReadable}
 
@@ -66,6 +67,13 @@ image_is_accepted at files spot (objects, image, are, linked) (inr (others, its,
     let same = same_objects files others objects its are in
     let here : IsLinkRefusal objects at spot = subst (λ (os : List ObjectParts). IsLinkRefusal os at spot) same refusal in
     linked.can.sound spot here.fault
+
+-- Inputs none of whose objects is refused are not refused.
+pub hardenable_is_accepted : (files : List (List ℕ)) (spot : Spot) → AreHardenable files → IsHardenInputRefusal files spot → ⊥
+hardenable_is_accepted files spot (objects, are, none) (inl read) = read_is_accepted INPUT files objects spot are read
+hardenable_is_accepted files spot (objects, are, none) (inr (others, its, refusal)) =
+    let same : others ≡ objects = same_read INPUT files others objects its are in
+    none spot.file refusal.object refusal.own (subst (λ (os : List ObjectParts). slice_get os spot.file ≡ Some refusal.object) same refusal.there) refusal.refused
 
 -- A file that is read is not refused.
 pub readable_is_accepted : (file : List ℕ) (spot : Spot) → IsReadable file → IsListRefusal file spot → ⊥

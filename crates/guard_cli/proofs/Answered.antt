@@ -1,35 +1,19 @@
 -- Where nothing outside is in the way, what is accepted is done, unless memory runs out.
-use Rattle.std.proofs.Common.{◌≡◌, ◌≢◌, ◌+◌, inl, inr, ℕ, List, [], ◌∷◌, ◌++◌, Option, Some, None, IsTrue, refl, sym, ◌∙◌, subst, arith}
+use Rattle.std.proofs.Common.{◌≡◌, ◌≢◌, ◌+◌, inl, inr, ℕ, List, [], ◌∷◌, ◌++◌, Option, Some, None, IsTrue, refl, sym, ◌∙◌, subst}
 use Rattle.guard_io.specs.Outside.{IsLoaded}
-use Rattle.elf_model.specs.Objects.{ObjectParts}
-use Rattle.elf_model.proofs.OneObject.{only_one_object}
 use Rattle.elf_model.specs.declared.refusals.Spot.{Spot}
-use Rattle.elf_model.specs.declared.refusals.Limit.{Limit}
 use Rattle.skip_machine.specs.declared.machines.Outcome.{Outcome}
 use Rattle.skip_machine.specs.declared.machines.Outcome.TheVariants.{Returned}
 use Rattle.guard_cli.specs.declared.endings.Ending.{Ending}
 use Rattle.guard_cli.specs.declared.endings.Ending.TheVariants.{Done, Refused, Usage, ReadFault, WriteFault, PrintFault, NoMemory, Stopped}
-use Rattle.guard_cli.specs.Inputs.{IsHandled, IsInputRefusal}
 use Rattle.guard_cli.specs.Moments.{Files, Screen, IsUndisturbed}
 use Rattle.guard_cli.specs.Works.{Input, Contents, Work, AreLoaded}
-use Rattle.guard_cli.specs.Endings.{EndsUnder, EndsAs, ComesTo, IsDoneOrNoMemory}
+use Rattle.guard_cli.specs.Endings.{EndsAs, IsDoneOrNoMemory}
 use Rattle.guard_cli.proofs.Carried.{KeepsItsPromise}
-
--- A file that is handled is not refused as it is read.
-pub handled_is_accepted : (l : Limit) (Form : ObjectParts → Type 0) (file : List ℕ) (spot : Spot) → IsHandled l Form file → IsInputRefusal l Form file spot → ⊥
-handled_is_accepted l Form file spot (o, taken) (inl long) =
-    let short = taken.read.short in
-    let above = long.1 in
-    omega arith
-handled_is_accepted l Form file spot (o, taken) (inr (short, inl first)) = taken.read.faultless spot.refusal spot.section spot.offset first.fault
-handled_is_accepted l Form file spot (o, taken) (inr (short, inr (is, (other, read, not)))) =
-    let same = only_one_object file o other taken.read.stands read.stands in
-    not (subst Form same taken.form)
 
 -- what each work keeps to
 pub record IsLawful (w : Work) : Type 0 where
   pub promises : KeepsItsPromise w
-  pub not_at_once : (spot : Spot) (loaded : List (List ℕ)) → w.at_once ≡ Some spot → w.Accepts loaded → ⊥
   pub not_refused : (loaded : List (List ℕ)) (spot : Spot) → w.Accepts loaded → w.Refuses loaded spot → ⊥
   pub not_stopped : (loaded : List (List ℕ)) (outcome : Outcome) (line : List ℕ) → w.Accepts loaded → outcome ≢ Returned → w.Stops loaded outcome line → ⊥
 
@@ -65,32 +49,25 @@ module _ (w : Work) (lawful : IsLawful w) (old new : Files) (screen after : Scre
   own : (other : List (List ℕ)) → (IsTrue old.told → AreLoaded old.content w.inputs other) → other ≡ loaded
   own other it = same_loaded old.content w.inputs other loaded (it told) has
 
-  comes_done : (ending : Ending) → ComesTo w old new screen after ending → IsDoneOrNoMemory ending
-  comes_done Done h = inl refl
-  comes_done NoMemory h = inr refl
-  comes_done Usage h = absurd h
-  comes_done (Refused spot) h = absurd (lawful.not_refused loaded spot accepts (subst (λ (l : List (List ℕ)). w.Refuses l spot) (own h.loaded h.inputs) h.cause))
-  comes_done (Stopped outcome) h =
+  pub ends_done : (ending : Ending) → EndsAs w old new screen after ending → IsDoneOrNoMemory ending
+  ends_done Done h = inl refl
+  ends_done NoMemory h = inr refl
+  ends_done Usage h = absurd h
+  ends_done (Refused spot) h = absurd (lawful.not_refused loaded spot accepts (subst (λ (l : List (List ℕ)). w.Refuses l spot) (own h.loaded h.inputs) h.cause))
+  ends_done (Stopped outcome) h =
       absurd (lawful.not_stopped loaded outcome h.line accepts h.other (subst (λ (l : List (List ℕ)). w.Stops l outcome h.line) (own h.loaded h.inputs) h.cause))
-  comes_done ReadFault h =
+  ends_done ReadFault h =
       absurd (elim calm [
         | inl none ↦ none.loads h.cause
         | inr steady ↦ no_fault h.earlier h.input h.later h.inputs_are h.absent steady.0
       ])
-  comes_done WriteFault h =
+  ends_done WriteFault h =
       absurd (elim calm [
         | inl none ↦ none.saves h.finished.cause
         | inr steady ↦ h.finished.unsteady steady.0
       ])
-  comes_done PrintFault h =
+  ends_done PrintFault h =
       absurd (elim calm [
         | inl none ↦ none.puts h.finished.1.cause
         | inr steady ↦ h.finished.1.unsteady steady.1
       ])
-
-  under_done : (o : Option Spot) (ending : Ending) → w.at_once ≡ o → EndsUnder o w old new screen after ending → IsDoneOrNoMemory ending
-  under_done (Some spot) ending is h = absurd (lawful.not_at_once spot loaded is accepts)
-  under_done None ending is h = comes_done ending h
-
-  pub ends_done : (ending : Ending) → EndsAs w old new screen after ending → IsDoneOrNoMemory ending
-  ends_done ending h = under_done w.at_once ending refl h

@@ -1,6 +1,5 @@
 -- What a step knows, carried to the whole command.
-use Rattle.std.proofs.Common.{◌≡◌, ◌<◌, ◌≤◌, inl, inr, ℕ, List, [], ◌∷◌, length, Option, Some, None, Result, Ok, Err, IsTrue, refl, sym, ap, ◌∙◌, subst, arith}
-use Rattle.std.specs.Prelude.{IfOk}
+use Rattle.std.proofs.Common.{◌≡◌, ◌<◌, ◌≤◌, inl, inr, ℕ, List, [], ◌∷◌, length, Option, Some, None, IsTrue, refl, sym, ap, ◌∙◌, subst, arith}
 use Rattle.std.proofs.lemmas.List.{length-take, take_all}
 use Rattle.guard_io.specs.Outside.{Rose, IsLoaded}
 use Rattle.skip_machine.specs.declared.machines.Outcome.{Outcome}
@@ -9,7 +8,7 @@ use Rattle.guard_cli.specs.declared.endings.Ending.TheVariants.{Done, Refused, U
 use Rattle.guard_cli.specs.declared.tasks.Made.{Made}
 use Rattle.guard_cli.specs.Moments.{Files, Screen, SameBut, Untouched, IsSaved}
 use Rattle.guard_cli.specs.Works.{Save, Work, AreLoaded}
-use Rattle.guard_cli.specs.Endings.{AreSaved, FinishesAs, HasLoaded, IsDecided, ComesTo}
+use Rattle.guard_cli.specs.Endings.{AreSaved, FinishesAs, HasLoaded, IsDecided, EndsAs}
 use Rattle.guard_cli.specs.Steps.{saves_of, IsMadeAs, IsMadeBy, IsSaving, IsSaying, MadeAsEndsAs, LoadsFailAs}
 
 -- A file of which less was loaded than might have been was loaded whole.
@@ -93,7 +92,7 @@ decided_of w loaded saves report old new screen after ending keeps has made fini
 }
 
 comes_finished : (w : Work) (saves : List Save) (report : List ℕ) (old new : Files) (screen after : Screen) (ending : Ending) → FinishesAs saves report old new screen after ending
-    → IsDecided w old new screen after ending → ComesTo w old new screen after ending
+    → IsDecided w old new screen after ending → EndsAs w old new screen after ending
 comes_finished w saves report old new screen after Done f d = d
 comes_finished w saves report old new screen after WriteFault f d = d
 comes_finished w saves report old new screen after PrintFault f d = d
@@ -105,16 +104,16 @@ comes_finished w saves report old new screen after (Stopped outcome) f d = absur
 
 -- how a command ends that has made something of its inputs
 pub made_comes : (w : Work) (loaded : List (List ℕ)) (saves : List Save) (report : List ℕ) (stopped : Option Outcome) (old mid new : Files) (screen after : Screen) (ending : Ending) → KeepsItsPromise w
-    → HasLoaded w old loaded → IsBefore old mid → IsMadeAs w loaded saves report stopped → MadeAsEndsAs saves report stopped mid new screen after ending → ComesTo w old new screen after ending
+    → HasLoaded w old loaded → IsBefore old mid → IsMadeAs w loaded saves report stopped → MadeAsEndsAs saves report stopped mid new screen after ending → EndsAs w old new screen after ending
 made_comes w loaded saves report None old mid new screen after ending keeps has b made ends =
     let f = finishes_before saves report old mid new screen after ending b ends in
     comes_finished w saves report old new screen after ending f (decided_of w loaded saves report old new screen after ending keeps has made f)
 made_comes w loaded saves report (Some outcome) old mid new screen after ending keeps has b (other, stops) (is, untouched, said) =
-    subst (λ (e : Ending). ComesTo w old new screen after e) (sym is)
+    subst (λ (e : Ending). EndsAs w old new screen after e) (sym is)
     (record { loaded = loaded; line = report; inputs = has; other = other; cause = stops; untouched = untouched_before old mid new b.same untouched; said = said })
 
 -- how a command ends that could not load its inputs
-pub unloaded_comes : (w : Work) (old new : Files) (screen after : Screen) (ending : Ending) → Untouched old new → LoadsFailAs w.inputs old new screen after ending → ComesTo w old new screen after ending
+pub unloaded_comes : (w : Work) (old new : Files) (screen after : Screen) (ending : Ending) → Untouched old new → LoadsFailAs w.inputs old new screen after ending → EndsAs w old new screen after ending
 unloaded_comes w old new screen after ReadFault same h = h
 unloaded_comes w old new screen after NoMemory same h = inl (same, h)
 unloaded_comes w old new screen after Done same h = absurd h
@@ -136,14 +135,3 @@ made_saying w loaded report stopped made s h =
     subst (λ (o : Option Outcome). IsMadeAs w loaded (saves_of made.outputs.items) made.report.items o) (sym s.stopped_is)
     (subst (λ (r : List ℕ). IsMadeAs w loaded (saves_of made.outputs.items) r stopped) (sym s.report_is)
     (subst (λ (saves : List Save). IsMadeAs w loaded saves report stopped) (sym s.outputs) h))
-
--- what is saved and said, by other names
-pub saving_as : {E : Type 0} (r : Result Made E) (name bytes report : List ℕ) (P : List ℕ → Type 0) (f g : List ℕ → List ℕ) → ((h : List ℕ) → P h → bytes ≡ f h) → ((h : List ℕ) → P h → report ≡ g h)
-    → IfOk r (IsSaving name bytes report) → IfOk r (λ made. (h : List ℕ) → P h → IsSaving name (f h) (g h) made)
-saving_as (Err e) name bytes report P f g same_bytes same_report h = tt
-saving_as (Ok made) name bytes report P f g same_bytes same_report s = λ h p.
-    record {
-      outputs = s.outputs ∙ ap (λ (b : List ℕ). record { name = name; bytes = b } ∷ []) (same_bytes h p);
-      report_is = s.report_is ∙ same_report h p;
-      ran_on = s.ran_on;
-    }

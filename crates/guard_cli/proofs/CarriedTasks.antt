@@ -1,5 +1,5 @@
 -- Commands that are carried out, each by its cases.
-use Rattle.std.proofs.Common.{◌≡◌, inl, ℕ, Bool, List, [], ◌∷◌, length, refl, sym, ap, ap₂, ◌∙◌, subst, arith}
+use Rattle.std.proofs.Common.{◌≡◌, inl, ℕ, Bool, List, [], ◌∷◌, length, map, string_bytes, refl, sym, ap, ap₂, ◌∙◌, subst, arith}
 use Rattle.std.specs.Prelude.{All}
 use Rattle.std.proofs.lemmas.List.{length-map}
 use Rattle.std.proofs.lemmas.List.Elements.{All-nil, All-cons, All-head, All-tail}
@@ -10,45 +10,34 @@ use Rattle.guard_words.specs.declared.tasks.Task.{Task}
 use Rattle.guard_words.specs.declared.tasks.Task.TheVariants as task
 use Rattle.guard_cli.specs.Moments.{Files, Screen, Untouched}
 use Rattle.guard_cli.specs.Works.{Input, Contents, AreLoaded, inputs_of, input_named}
-use Rattle.guard_cli.specs.Endings.{HasLoaded, ComesTo, EndsAs, IsTurnedAwayAs}
+use Rattle.guard_cli.specs.Endings.{HasLoaded, EndsAs, IsTurnedAwayAs}
 use Rattle.guard_words.specs.Meanings.{Means}
 use Rattle.guard_cli.specs.Steps.{work_by, names_by, limit_by, HasFewInputs, IsSound, AddsLoaded, LoadsFailAs}
-use Rattle.guard_words.specs.Tasks.{meaning_by}
+use Rattle.guard_words.specs.Words.{Pair}
+use Rattle.guard_words.specs.Tasks.{meaning_by, pairs_in}
 use Rattle.guard_cli.proofs.Carried.{unloaded_comes}
 
 pub sound_by : (words : List (List ℕ)) (t : Task) → Means words (meaning_by t) → IsSound t
-sound_by words (task.Harden input output) h = tt
+sound_by words (task.Harden names) h = tt
 sound_by words (task.Link c) h = h.placed.sound
 sound_by words (task.Run c) h = (h.meant.placed.sound, h.meant.few_steps)
 sound_by words (task.List input) h = tt
 
 pub few_by : (words : List (List ℕ)) (t : Task) → Means words (meaning_by t) → HasFewInputs t
-few_by words (task.Harden input output) h = record { some = omega arith; few = omega arith }
+few_by words (task.Harden names) h = let count = length-map (pairs_in (map string_bytes names.now)) (λ (p : Pair). p.input) in record { some = omega (arith, count, h.some); few = omega (arith, count, h.few) }
 few_by words (task.Link c) h = record { some = h.some; few = h.few }
 few_by words (task.Run c) h = record { some = h.some; few = h.few }
 few_by words (task.List input) h = record { some = omega arith; few = omega arith }
 
 pub its_inputs : (t : Task) → (work_by t).inputs ≡ inputs_of (limit_by t) (names_by t)
-its_inputs (task.Harden input output) = refl
+its_inputs (task.Harden names) = refl
 its_inputs (task.Link c) = refl
 its_inputs (task.Run c) = refl
 its_inputs (task.List input) = refl
 
-pub comes_ends : (t : Task) (old new : Files) (screen after : Screen) (ending : Ending) → ComesTo (work_by t) old new screen after ending → EndsAs (work_by t) old new screen after ending
-comes_ends (task.Harden input output) old new screen after ending h = h
-comes_ends (task.Link c) old new screen after ending h = h
-comes_ends (task.Run c) old new screen after ending h = h
-comes_ends (task.List input) old new screen after ending h = h
-
-pub ends_come : (t : Task) (old new : Files) (screen after : Screen) (ending : Ending) → EndsAs (work_by t) old new screen after ending → ComesTo (work_by t) old new screen after ending
-ends_come (task.Harden input output) old new screen after ending h = h
-ends_come (task.Link c) old new screen after ending h = h
-ends_come (task.Run c) old new screen after ending h = h
-ends_come (task.List input) old new screen after ending h = h
-
 -- No command that is carried out is answered as misused.
 pub not_misused : (t : Task) (old new : Files) (screen after : Screen) (ending : Ending) → EndsAs (work_by t) old new screen after ending → ending ≡ Usage → ⊥
-not_misused t old new screen after ending h e = subst (λ (x : Ending). ComesTo (work_by t) old new screen after x) e (ends_come t old new screen after ending h)
+not_misused t old new screen after ending h e = subst (λ (x : Ending). EndsAs (work_by t) old new screen after x) e h
 
 names_there : (limit : ℕ) (P : List ℕ → Type 0) (names : List (List ℕ)) → All (λ (i : Input). P i.name) (inputs_of limit names) → All P names
 names_there limit P [] all = All-nil P
@@ -64,15 +53,14 @@ pub unloaded_ends : (t : Task) (limit : ℕ) (names : List (List ℕ)) (old new 
     → LoadsFailAs (inputs_of limit names) old new screen after ending → EndsAs (work_by t) old new screen after ending
 unloaded_ends t limit names old new screen after ending limited named same h =
     let inputs : inputs_of limit names ≡ (work_by t).inputs = ap₂ inputs_of limited named ∙ sym (its_inputs t) in
-    comes_ends t old new screen after ending
-    (unloaded_comes (work_by t) old new screen after ending same (subst (λ (l : List Input). LoadsFailAs l old new screen after ending) inputs h))
+    unloaded_comes (work_by t) old new screen after ending same (subst (λ (l : List Input). LoadsFailAs l old new screen after ending) inputs h)
 
 pub refused_comes : (t : Task) (spot : Spot) (loaded : List (List ℕ)) (old new : Files) (screen after : Screen) (ending : Ending) → HasLoaded (work_by t) old loaded → (work_by t).Refuses loaded spot
     → Untouched old new → IsTurnedAwayAs (input_named (work_by t).inputs spot.file) spot screen after ending → EndsAs (work_by t) old new screen after ending
 refused_comes t spot loaded old new screen after (Refused told) has cause same (is, said) =
     subst (λ (s : Spot). EndsAs (work_by t) old new screen after (Refused s)) (sym is)
-    (comes_ends t old new screen after (Refused spot) (record { loaded = loaded; inputs = has; cause = cause; untouched = same; said = said }))
-refused_comes t spot loaded old new screen after NoMemory has cause same said = comes_ends t old new screen after NoMemory (inl (same, said))
+    (record { loaded = loaded; inputs = has; cause = cause; untouched = same; said = said })
+refused_comes t spot loaded old new screen after NoMemory has cause same said = inl (same, said)
 refused_comes t spot loaded old new screen after Done has cause same said = absurd said
 refused_comes t spot loaded old new screen after Usage has cause same said = absurd said
 refused_comes t spot loaded old new screen after ReadFault has cause same said = absurd said

@@ -10,13 +10,11 @@ use Rattle.elf_model.specs.declared.refusals.Spot.{Spot}
 use Rattle.elf_model.specs.declared.refusals.Deny.{Deny}
 use Rattle.elf_model.specs.declared.refusals.Deny.TheVariants as deny
 use Rattle.elf_model.specs.declared.refusals.Limit.{Limit}
-use Rattle.elf_model.specs.declared.refusals.TheConstants.Limit.{ANY}
 use Rattle.elf_model.specs.Objects.{ObjectParts, is_within}
 use Rattle.elf_read.specs.Faults.{IsFirstFault, IsFaultless, IsDeniedFor}
 use Rattle.guard_cli.specs.declared.endings.Ending.{Ending}
 use Rattle.guard_cli.specs.declared.endings.Ending.TheVariants.{Done, Refused, Usage, ReadFault, WriteFault, PrintFault, NoMemory, Stopped}
-use Rattle.guard_cli.specs.FirstForm.{at_start}
-use Rattle.guard_cli.specs.Inputs.{IsReadAs, AreReadAs, in_file, IsTooLong, IsFaulty, IsTurnedDown, deny_in}
+use Rattle.guard_cli.specs.Inputs.{IsReadAs, AreReadAs, at_start, in_file, IsTooLong, IsFaulty, IsTurnedDown, deny_in}
 use Rattle.guard_cli.specs.Moments.{Files, Screen, Untouched, CountsStay}
 use Rattle.guard_cli.specs.Works.{Input, Contents, AreLoaded, inputs_of, input_named}
 use Rattle.guard_cli.specs.Steps.{contents_of, AddsLoaded, LoadFailsAs, LoadsFailAs}
@@ -172,12 +170,12 @@ one_file (x ∷ []) v e is = ap (λ (w : Vec ℕ Global). w.items ∷ []) (sym i
 one_file (x ∷ y ∷ files) v e is = absurd (omega arith)
 
 -- Objects of files that are read are within the limits, and objects.
-pub all_within : (files : List (List ℕ)) (objects : List ObjectParts) → AreReadAs ANY files objects → All (λ o. IsTrue (is_within o ANY)) objects
-all_within [] [] h = All-nil (λ o. IsTrue (is_within o ANY))
-all_within [] (o ∷ objects) h = absurd h
-all_within (f ∷ files) [] h = absurd h
-all_within (f ∷ files) (o ∷ objects) (h, hs) =
-    All-cons (λ (p : ObjectParts). IsTrue (is_within p ANY)) o objects (read_within f ANY o h.faultless h.stands) (all_within files objects hs)
+pub all_within : (l : Limit) (files : List (List ℕ)) (objects : List ObjectParts) → AreReadAs l files objects → All (λ o. IsTrue (is_within o l)) objects
+all_within l [] [] h = All-nil (λ o. IsTrue (is_within o l))
+all_within l [] (o ∷ objects) h = absurd h
+all_within l (f ∷ files) [] h = absurd h
+all_within l (f ∷ files) (o ∷ objects) (h, hs) =
+    All-cons (λ (p : ObjectParts). IsTrue (is_within p l)) o objects (read_within f l o h.faultless h.stands) (all_within l files objects hs)
 
 -- the names of inputs by number
 pub named_at : (limit : ℕ) (names : List (List ℕ)) (k : ℕ) (d : List ℕ) → k < length names → input_named (inputs_of limit names) k ≡ get_or names k d

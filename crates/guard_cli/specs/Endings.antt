@@ -1,5 +1,5 @@
 -- How a command ends: each ending with its cause, with what it leaves of the files, and with what it says.
-use Rattle.std.specs.Prelude.{◌≡◌, ◌≢◌, ◌⊎◌, ℕ, List, [], ◌∷◌, ◌++◌, Option, Some, None, IsTrue}
+use Rattle.std.specs.Prelude.{◌≡◌, ◌≢◌, ◌⊎◌, ℕ, List, [], ◌∷◌, ◌++◌, None, IsTrue}
 use Rattle.guard_io.specs.Outside.{Rose}
 use Rattle.elf_model.specs.declared.refusals.Spot.{Spot}
 use Rattle.skip_machine.specs.declared.machines.Outcome.{Outcome}
@@ -21,12 +21,6 @@ abbrev pub IsTurnedAwayAs : List ℕ → Spot → Screen → Screen → Ending �
 IsTurnedAwayAs name spot screen after (Refused told) = (told ≡ spot) × IsToldOf (refused_line name spot) screen after
 IsTurnedAwayAs name spot screen after NoMemory = IsToldOf no_memory_line screen after
 IsTurnedAwayAs name spot screen after _ = ⊥
-
--- A command that is refused at once touches nothing, and loads nothing. Its first input is named.
-pub record IsRefusedAtOnce (w : Work) (spot : Spot) (old new : Files) (screen after : Screen) (ending : Ending) : Type 0 where
-  pub untouched : Untouched old new
-  pub loads : new.load_faults ≡ old.load_faults
-  pub turned : IsTurnedAwayAs (input_named w.inputs spot.file) spot screen after ending
 
 -- The outputs were saved whole, one behind another.
 abbrev pub AreSaved : List Save → Files → Files → Type 0
@@ -106,24 +100,16 @@ pub record IsStopped (w : Work) (outcome : Outcome) (old new : Files) (screen af
   pub untouched : Untouched old new
   pub said : IsToldOf line screen after
 
--- what each ending of a command says that is not refused at once
-abbrev pub ComesTo : Work → Files → Files → Screen → Screen → Ending → Type 0
-ComesTo w old new screen after (Refused spot) = IsRefused w spot old new screen after
-ComesTo w old new screen after Usage = ⊥
-ComesTo w old new screen after ReadFault = IsUnread w.inputs old new screen after
-ComesTo w old new screen after NoMemory = (Untouched old new × IsToldOf no_memory_line screen after) ⊎ IsDecided w old new screen after NoMemory
-ComesTo w old new screen after (Stopped outcome) = IsStopped w outcome old new screen after
-ComesTo w old new screen after Done = IsDecided w old new screen after Done
-ComesTo w old new screen after WriteFault = IsDecided w old new screen after WriteFault
-ComesTo w old new screen after PrintFault = IsDecided w old new screen after PrintFault
-
--- how a command of this work ends
-abbrev pub EndsUnder : Option Spot → Work → Files → Files → Screen → Screen → Ending → Type 0
-EndsUnder (Some spot) w old new screen after ending = IsRefusedAtOnce w spot old new screen after ending
-EndsUnder None w old new screen after ending = ComesTo w old new screen after ending
-
+-- how a command of this work ends: what each ending says
 abbrev pub EndsAs : Work → Files → Files → Screen → Screen → Ending → Type 0
-EndsAs w old new screen after ending = EndsUnder w.at_once w old new screen after ending
+EndsAs w old new screen after (Refused spot) = IsRefused w spot old new screen after
+EndsAs w old new screen after Usage = ⊥
+EndsAs w old new screen after ReadFault = IsUnread w.inputs old new screen after
+EndsAs w old new screen after NoMemory = (Untouched old new × IsToldOf no_memory_line screen after) ⊎ IsDecided w old new screen after NoMemory
+EndsAs w old new screen after (Stopped outcome) = IsStopped w outcome old new screen after
+EndsAs w old new screen after Done = IsDecided w old new screen after Done
+EndsAs w old new screen after WriteFault = IsDecided w old new screen after WriteFault
+EndsAs w old new screen after PrintFault = IsDecided w old new screen after PrintFault
 
 -- Nothing but memory is in the way.
 abbrev pub IsDoneOrNoMemory : Ending → Type 0

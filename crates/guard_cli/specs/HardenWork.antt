@@ -1,66 +1,119 @@
--- The work of `harden` with one pair.
-use Rattle.std.specs.Prelude.{◌≡◌, ℕ, ◌*◌, List, [], ◌∷◌, length, None}
+-- The work of `harden`: its inputs' objects are hardened for two copies and four results.
+use Rattle.std.specs.Prelude.{◌≡◌, ◌<◌, ◌⊎◌, ℕ, List, [], ◌∷◌, map, All, Some, slice_get}
+use Rattle.elf_model.specs.declared.refusals.Refusal.{Refusal}
+use Rattle.elf_model.specs.declared.refusals.Refusal.TheVariants.{LiveAtEntry, LiveAtReturn, NoScratch, OutOfReach, CodeTooBig}
 use Rattle.elf_model.specs.declared.refusals.Spot.{Spot}
 use Rattle.elf_model.specs.declared.refusals.TheConstants.Limit.{INPUT}
+use Rattle.elf_model.specs.Objects.{ObjectParts, code_size}
+use Rattle.elf_model.specs.Files.{StandsFor}
 use Rattle.elf_model.specs.Canonical.{canonical}
 use Rattle.elf_read.specs.Faults.{dropped_count}
-use Rattle.guard_cli.specs.FirstForm.{IsFirstCode, IsFirstObject, first_object}
+use Rattle.flat_link.specs.Existing.{HaveBytes}
+use Rattle.sim_relation.specs.Accepted.{boundaries}
+use Rattle.sim_relation.specs.Pairs.{Paired, everywhere}
+use Rattle.harden_core.specs.declared.hardening.Hardened.{Hardened as HardenedObject}
+use Rattle.harden_core.specs.Denials.{IsHardenRefusal}
+use Rattle.harden_core.specs.Hardening.{IsHardening}
 use Rattle.guard_words.specs.Words.{Pair}
-use Rattle.guard_cli.specs.Inputs.{IsReadAs, IsHandled, IsInputRefusal}
-use Rattle.guard_cli.specs.Output.{hardened_object}
-use Rattle.guard_cli.specs.Promise.{IsPick, AreHardened}
+use Rattle.guard_cli.specs.Inputs.{IsReadAs, AreReadAs, IsReadRefusal, in_file}
+use Rattle.guard_cli.specs.Promise.{IsPick, OutputsDiffer, AreHardened}
 use Rattle.guard_cli.specs.Texts.{Tally, greatest_factor, report}
-use Rattle.guard_cli.specs.Works.{Save, Contents, Work, OfOne}
+use Rattle.guard_cli.specs.Works.{Save, Contents, Work, inputs_of}
 
--- When the one input of `harden` is refused.
-abbrev pub IsHardenRefusal : List ℕ → Spot → Type 0
-IsHardenRefusal file spot = IsInputRefusal INPUT IsFirstObject file spot
+-- what one object is refused for
+abbrev pub IsRefusalOf : ObjectParts → Spot → Type 0
+IsRefusalOf o spot = IsHardenRefusal o (boundaries 4) 2 spot
 
--- the file of this code, of which so many sections are left out
-pub record IsFileOf (halves : List ℕ) (dropped : ℕ) (file : List ℕ) : Type 0 where
-  pub read : IsReadAs INPUT file (first_object halves)
-  pub left_out : dropped ≡ dropped_count file
+-- its phase: flow, liveness, scratch registers, layout
+abbrev pub phase_of : Refusal → ℕ
+phase_of (LiveAtEntry register) = 2
+phase_of (LiveAtReturn register) = 2
+phase_of (NoScratch need have flags) = 3
+phase_of (OutOfReach distance) = 4
+phase_of CodeTooBig = 4
+phase_of other = 1
 
--- what is said of it: every halfword is an instruction
-abbrev pub tally_of : List ℕ → List ℕ → ℕ → Tally
-tally_of output halves dropped = record {
-  output = output;
-  functions = 1;
-  before = length halves;
-  after = 2 * length halves;
-  old_bytes = 2 * length halves;
-  new_bytes = 4 * length halves;
-  dropped = dropped;
-  factor = 2;
+-- All objects go through a phase before the next: a refusal in one file comes before another's by its phase, and then by
+-- the number of the file.
+abbrev pub ComesBefore : Refusal → ℕ → Refusal → ℕ → Type 0
+ComesBefore r j s k = (phase_of r < phase_of s) ⊎ ((phase_of r ≡ phase_of s) × (j < k))
+
+-- the refusal of one of the objects, before which no other comes
+pub record IsFirstRefusal (objects : List ObjectParts) (spot : Spot) : Type 0 where
+  pub object : ObjectParts
+  pub there : slice_get objects spot.file ≡ Some object
+  pub own : Spot
+  pub refused : IsRefusalOf object own
+  pub spot_is : spot ≡ in_file spot.file own
+  pub first : (j : ℕ) (o : ObjectParts) (other : Spot) → slice_get objects j ≡ Some o → IsRefusalOf o other → ¬ ComesBefore other.refusal j own.refusal spot.file
+
+abbrev pub NoneRefused : List ObjectParts → Type 0
+NoneRefused objects = (j : ℕ) (o : ObjectParts) (spot : Spot) → slice_get objects j ≡ Some o → ¬ IsRefusalOf o spot
+
+-- When the inputs are refused: as they are read, or else as their objects are hardened.
+abbrev pub IsHardenInputRefusal : List (List ℕ) → Spot → Type 0
+IsHardenInputRefusal files spot = IsReadRefusal INPUT files spot ⊎ ((objects : List ObjectParts) × AreReadAs INPUT files objects × IsFirstRefusal objects spot)
+
+-- files whose objects are not refused
+abbrev pub AreHardenable : List (List ℕ) → Type 0
+AreHardenable files = (objects : List ObjectParts) × AreReadAs INPUT files objects × NoneRefused objects
+
+-- a pair with the bytes of its input, the object that they are, and what is made of that
+pub record Part : Type 0 where
+  pub pair : Pair
+  pub file : List ℕ
+  pub object : ObjectParts
+  pub hardened : HardenedObject
+
+abbrev pub output_of : Part → ObjectParts
+output_of p = p.hardened.object
+
+-- The object is hardened, so paired with what is made of it, for which its file stands.
+pub record IsPart (p : Part) : Type 0 where
+  pub read : IsReadAs INPUT p.file p.object
+  pub hardening : IsHardening p.object 2 4 p.hardened
+  pub paired : Paired p.object (output_of p) p.hardened.factor 2 4 everywhere
+  pub bytes : HaveBytes (output_of p ∷ [])
+  pub stands : StandsFor (canonical (output_of p)) (output_of p)
+
+abbrev pub save_of_part : Part → Save
+save_of_part p = record { name = p.pair.output; bytes = canonical (output_of p) }
+
+-- what is said of it
+abbrev pub tally_of : Part → Tally
+tally_of p = record {
+  output = p.pair.output;
+  functions = p.hardened.functions;
+  before = p.hardened.before;
+  after = p.hardened.after;
+  old_bytes = code_size p.object.sections;
+  new_bytes = code_size (output_of p).sections;
+  dropped = dropped_count p.file;
+  factor = p.hardened.factor;
 }
 
-abbrev pub output_of : List ℕ → List ℕ
-output_of halves = canonical (hardened_object halves)
+-- what is made of all pairs
+pub record IsHardenMade (pairs : List Pair) (files : List (List ℕ)) (saves : List Save) (said : List ℕ) : Type 0 where
+  pub parts : List Part
+  pub pairs_are : map (λ (p : Part). p.pair) parts ≡ pairs
+  pub files_are : map (λ (p : Part). p.file) parts ≡ files
+  pub each : All IsPart parts
+  pub saves_are : saves ≡ map save_of_part parts
+  pub said_is : said ≡ report (map tally_of parts)
 
-abbrev pub report_of : List ℕ → List ℕ → ℕ → List ℕ
-report_of output halves dropped = report (tally_of output halves dropped ∷ [])
+-- Skips do no harm to what was saved, with the factor that the report ends with, whichever of the outputs are linked.
+pub record IsHardenPromised (pairs : List Pair) (files : List (List ℕ)) (saves : List Save) (said : List ℕ) (before after : Contents) : Type 0 where
+  pub made : IsHardenMade pairs files saves said
+  pub hardened : (picked : List Pair) → IsPick pairs picked → AreHardened picked before after (greatest_factor (map tally_of made.parts))
+  -- all of them in their order, where each output has a name of its own
+  pub whole : OutputsDiffer pairs → AreHardened pairs before after (greatest_factor (map tally_of made.parts))
 
--- the code of an input, and what is made of it
-pub record IsHardenMade (output file : List ℕ) (saves : List Save) (said : List ℕ) : Type 0 where
-  pub halves : List ℕ
-  pub dropped : ℕ
-  pub code : IsFirstCode halves
-  pub input : IsFileOf halves dropped file
-  pub saves_are : saves ≡ record { name = output; bytes = output_of halves } ∷ []
-  pub said_is : said ≡ report_of output halves dropped
-
--- Skips do no harm to what was saved, with the factor that the report ends with.
-pub record IsHardenPromised (p : Pair) (file : List ℕ) (saves : List Save) (said : List ℕ) (before after : Contents) : Type 0 where
-  pub made : IsHardenMade p.output file saves said
-  pub hardened : (picked : List Pair) → IsPick (p ∷ []) picked → AreHardened picked before after (greatest_factor (tally_of p.output made.halves made.dropped ∷ []))
-
-abbrev pub harden_work : Pair → Work
-harden_work p = record {
-  at_once = None;
-  inputs = record { name = p.input; limit = INPUT.file } ∷ [];
-  Accepts = OfOne (IsHandled INPUT IsFirstObject);
-  Refuses = λ loaded spot. OfOne (λ file. IsHardenRefusal file spot) loaded;
-  Makes = λ loaded saves said. OfOne (λ file. IsHardenMade p.output file saves said) loaded;
+abbrev pub harden_work : List Pair → Work
+harden_work pairs = record {
+  inputs = inputs_of INPUT.file (map (λ (p : Pair). p.input) pairs);
+  Accepts = AreHardenable;
+  Refuses = IsHardenInputRefusal;
+  Makes = IsHardenMade pairs;
   Stops = λ loaded outcome line. ⊥;
-  Promises = λ loaded saves said before after. OfOne (λ file. IsHardenPromised p file saves said before after) loaded;
+  Promises = IsHardenPromised pairs;
 }

@@ -1,6 +1,3 @@
-pub mod FirstForm
-pub mod FirstCode
-pub mod Output
 pub mod Texts
 pub mod Inputs
 pub mod Moments
@@ -14,3 +11,4 @@ pub mod Meant
 pub mod Statuses
 pub mod Promise
 pub mod ListWork
+pub mod HardenSteps

@@ -1,5 +1,5 @@
 -- The work of `link`.
-use Rattle.std.specs.Prelude.{◌≡◌, ◌⊎◌, ℕ, Bool, List, [], ◌∷◌, None, ⊤, if◌then◌else◌}
+use Rattle.std.specs.Prelude.{◌≡◌, ◌⊎◌, ℕ, Bool, List, [], ◌∷◌, ⊤, if◌then◌else◌}
 use Rattle.std.specs.List.{sum_by}
 use Rattle.elf_model.specs.declared.refusals.Spot.{Spot}
 use Rattle.elf_model.specs.declared.refusals.TheConstants.Limit.{ANY}
@@ -47,7 +47,6 @@ pub record IsLinkMade (l : LinkWords) (files : List (List ℕ)) (saves : List Sa
 
 abbrev pub link_work : LinkWords → Work
 link_work l = record {
-  at_once = None;
   inputs = inputs_of ANY.file l.inputs;
   Accepts = HaveImage l.at;
   Refuses = IsLinkInputRefusal l.at;

@@ -1,12 +1,11 @@
 -- The work of `list`.
-use Rattle.std.specs.Prelude.{◌≡◌, ◌<◌, ◌≤◌, ◌⊎◌, ℕ, List, [], ◌∷◌, length, None, ⊤}
+use Rattle.std.specs.Prelude.{◌≡◌, ◌<◌, ◌≤◌, ◌⊎◌, ℕ, List, [], ◌∷◌, length, ⊤}
 use Rattle.elf_model.specs.declared.refusals.Refusal.TheVariants.{TooLong}
 use Rattle.elf_model.specs.declared.refusals.Spot.{Spot}
 use Rattle.elf_model.specs.declared.refusals.TheConstants.Limit.{ANY}
 use Rattle.elf_model.specs.Objects.{ObjectParts}
 use Rattle.elf_read.specs.Faults.{IsFirstFault}
-use Rattle.guard_cli.specs.FirstForm.{at_start}
-use Rattle.guard_cli.specs.Inputs.{IsReadAs}
+use Rattle.guard_cli.specs.Inputs.{IsReadAs, at_start}
 use Rattle.listing.specs.Listings.{IsListing}
 use Rattle.guard_cli.specs.Works.{Save, Work, OfOne}
 
@@ -28,7 +27,6 @@ pub record IsListMade (file : List ℕ) (saves : List Save) (text : List ℕ) : 
 
 abbrev pub list_work : List ℕ → Work
 list_work input = record {
-  at_once = None;
   inputs = record { name = input; limit = ANY.file } ∷ [];
   Accepts = OfOne IsReadable;
   Refuses = λ loaded spot. OfOne (λ file. IsListRefusal file spot) loaded;

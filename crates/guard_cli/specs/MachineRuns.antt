@@ -16,7 +16,7 @@ use Rattle.skip_machine.specs.declared.machines.Outcome.TheVariants.{Returned, F
 use Rattle.skip_machine.specs.Draws.{IsDrawn}
 use Rattle.skip_machine.specs.Runs.{RunEnds}
 use Rattle.guard_words.specs.Words.{RunWords, Skips, listed, drawn}
-use Rattle.guard_cli.specs.FirstForm.{at_start}
+use Rattle.guard_cli.specs.Inputs.{at_start}
 use Rattle.guard_cli.specs.Texts.{returned_line, stopped_line, unfinished_line}
 use Rattle.guard_cli.specs.LinkWork.{AreOf, IsLinkInputRefusal}
 use Rattle.guard_cli.specs.Works.{Work, inputs_of}
@@ -95,7 +95,6 @@ CanReturnBy r files = (schedule : List ℕ) × IsScheduleOf r schedule × CanRet
 -- the work of `run`; no file is written
 abbrev pub run_work : RunWords → Work
 run_work r = record {
-  at_once = None;
   inputs = inputs_of ANY.file r.inputs;
   Accepts = CanReturnBy r;
   Refuses = IsRunRefusal r.at r.entry;

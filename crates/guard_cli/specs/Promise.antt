@@ -1,5 +1,5 @@
 -- What is promised of the pairs of a command that ended well.
-use Rattle.std.specs.Prelude.{◌≡◌, ◌≢◌, ℕ, List, [], ◌∷◌, map, Option, Some, slice_get}
+use Rattle.std.specs.Prelude.{◌≡◌, ◌≢◌, ◌<◌, ℕ, List, [], ◌∷◌, map, Option, Some, slice_get}
 use Rattle.std.specs.List.{AllPairs}
 use Rattle.elf_model.specs.Objects.{ObjectParts}
 use Rattle.elf_model.specs.Files.{StandsFor}
@@ -13,10 +13,14 @@ AreObjects content (name ∷ names) (o ∷ objects) = ((file : List ℕ) × (con
 AreObjects content [] (o ∷ objects) = ⊥
 AreObjects content (name ∷ names) [] = ⊥
 
--- some of the pairs, in any order and each at most once
+-- No later pair has the output of this one, so that what it saved stays.
+abbrev pub Stays : List Pair → ℕ → Pair → Type 0
+Stays pairs k p = (j : ℕ) (q : Pair) → k < j → slice_get pairs j ≡ Some q → q.output ≢ p.output
+
+-- some of the pairs whose outputs stay, in any order and each at most once
 abbrev pub ArePlaced : List Pair → List ℕ → List Pair → Type 0
 ArePlaced pairs [] [] = Unit {0}
-ArePlaced pairs (k ∷ places) (p ∷ picked) = (slice_get pairs k ≡ Some p) × ArePlaced pairs places picked
+ArePlaced pairs (k ∷ places) (p ∷ picked) = (slice_get pairs k ≡ Some p) × Stays pairs k p × ArePlaced pairs places picked
 ArePlaced pairs [] (p ∷ picked) = ⊥
 ArePlaced pairs (k ∷ places) [] = ⊥
 
@@ -24,6 +28,9 @@ pub record IsPick (pairs picked : List Pair) : Type 0 where
   pub places : List ℕ
   pub differ : AllPairs (λ j k. j ≢ k) places
   pub are : ArePlaced pairs places picked
+
+abbrev pub OutputsDiffer : List Pair → Type 0
+OutputsDiffer pairs = AllPairs (λ (p q : Pair). p.output ≢ q.output) pairs
 
 -- The objects that the inputs stood for, and those that the outputs stand for, are the same, hardened.
 pub record AreHardened (picked : List Pair) (before after : List ℕ → Option (List ℕ)) (F : ℕ) : Type 0 where

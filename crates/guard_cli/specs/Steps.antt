@@ -16,9 +16,9 @@ use Rattle.guard_cli.specs.declared.outputs.Output.{Output}
 use Rattle.guard_words.specs.declared.tasks.Task.{Task}
 use Rattle.guard_words.specs.declared.tasks.Task.TheVariants as task
 use Rattle.guard_cli.specs.declared.run.Finished.{Finished}
-use Rattle.guard_cli.specs.declared.texts.Counts.{Counts}
-use Rattle.guard_words.specs.Tasks.{meaning_by}
-use Rattle.guard_cli.specs.Texts.{Tally, no_memory_line, read_fault_line}
+use Rattle.guard_words.specs.Words.{Pair}
+use Rattle.guard_words.specs.Tasks.{meaning_by, pairs_in}
+use Rattle.guard_cli.specs.Texts.{no_memory_line, read_fault_line}
 use Rattle.guard_cli.specs.Moments.{Files, Screen, Untouched, IsPut, IsCutOff, IsToldOf}
 use Rattle.guard_cli.specs.Works.{Input, Save, Contents, Work, AreLoaded}
 use Rattle.guard_cli.specs.Endings.{FinishesAs, IsUnsaved, IsPartlyDone, IsUnread}
@@ -31,13 +31,13 @@ work_by t = work_of (meaning_by t)
 
 -- its inputs, and how many bytes each may have
 abbrev pub names_by : Task → List (List ℕ)
-names_by (task.Harden input output) = input.now ∷ []
+names_by (task.Harden names) = map (λ (p : Pair). p.input) (pairs_in (map string_bytes names.now))
 names_by (task.Link c) = map string_bytes c.inputs.now
 names_by (task.Run c) = map string_bytes c.inputs.now
 names_by (task.List input) = input.now ∷ []
 
 abbrev pub limit_by : Task → ℕ
-limit_by (task.Harden input output) = INPUT.file
+limit_by (task.Harden names) = INPUT.file
 limit_by (task.Link c) = ANY.file
 limit_by (task.Run c) = ANY.file
 limit_by (task.List input) = ANY.file
@@ -49,7 +49,7 @@ pub record HasFewInputs (t : Task) : Type 0 where
 
 -- numbers that the words of a command have
 abbrev pub IsSound : Task → Type 0
-IsSound (task.Harden input output) = ⊤
+IsSound (task.Harden names) = ⊤
 IsSound (task.Link c) = IsPlacement c.at
 IsSound (task.Run c) = IsPlacement c.at × (c.steps ≤ 10000000)
 IsSound (task.List input) = ⊤
@@ -129,19 +129,6 @@ pub record AddsLoaded (told : Bool) (content : Contents) (inputs : List Input) (
   pub adds : new ≡ old ++ more
   pub count : length more ≡ length inputs
   pub loaded : IsTrue told → AreLoaded content inputs more
-
--- the counts of an output of this name
-abbrev pub tally_with : List ℕ → Counts → Tally
-tally_with output n = record {
-  output = output;
-  functions = n.functions;
-  before = n.before;
-  after = n.after;
-  old_bytes = n.old_bytes;
-  new_bytes = n.new_bytes;
-  dropped = n.dropped;
-  factor = n.factor;
-}
 
 -- the end of a run that did not return
 abbrev pub stopped_by : Outcome → Option Outcome

@@ -1,10 +1,8 @@
 -- The work of a command: what it loads, and what comes of that.
-use Rattle.std.specs.Prelude.{ℕ, zero, suc, ◌+◌, List, [], ◌∷◌, map, Option, Some, ⊤}
+use Rattle.std.specs.Prelude.{ℕ, zero, suc, ◌+◌, List, [], ◌∷◌, map, Option, ⊤}
 use Rattle.guard_io.specs.Outside.{IsLoaded}
-use Rattle.elf_model.specs.declared.refusals.Refusal.TheVariants.{NotYet}
 use Rattle.elf_model.specs.declared.refusals.Spot.{Spot}
 use Rattle.skip_machine.specs.declared.machines.Outcome.{Outcome}
-use Rattle.guard_cli.specs.FirstForm.{at_start}
 
 -- a file that is read, and how many bytes it may have
 pub record Input : Type 0 where
@@ -20,8 +18,6 @@ abbrev pub Contents : Type 0
 Contents = List ℕ → Option (List ℕ)
 
 pub record Work : Type 1 where
-  -- a refusal that stands before anything is loaded
-  pub at_once : Option Spot
   -- the inputs, in the order in which they are loaded
   pub inputs : List Input
   -- what is loaded that leads to an end without refusal
@@ -58,15 +54,3 @@ abbrev pub OfOne : (List ℕ → Type 0) → List (List ℕ) → Type 0
 OfOne P [] = ⊥
 OfOne P (bytes ∷ []) = P bytes
 OfOne P (bytes ∷ more ∷ loaded) = ⊥
-
--- a command with these inputs that is not handled yet
-abbrev pub not_yet : List (List ℕ) → Work
-not_yet names = record {
-  at_once = Some (at_start NotYet);
-  inputs = inputs_of 0 names;
-  Accepts = λ loaded. ⊥;
-  Refuses = λ loaded spot. ⊥;
-  Makes = λ loaded saves report. ⊥;
-  Stops = λ loaded outcome line. ⊥;
-  Promises = λ loaded saves report before after. ⊤;
-}

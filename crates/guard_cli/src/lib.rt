@@ -4,8 +4,6 @@
 mod carrying;
 mod endings;
 mod finishing;
-mod first;
-mod form;
 mod harden;
 mod link;
 mod list;
@@ -23,10 +21,8 @@ ghost use Rattle.guard_cli.specs.Works.{Input, AreLoaded};
 ghost use Rattle.guard_cli.specs.Endings.{EndsAs, IsMisused, IsDoneOrNoMemory};
 
 use crate::carrying::carry_out;
-use crate::finishing::{give_up, tell, turn_away};
-use crate::loading::at_start;
+use crate::finishing::{give_up, tell};
 use crate::texts::usage_text;
-use elf_model::Refusal;
 pub use endings::Ending;
 use guard_io::{Shelf, Sink};
 use guard_words::{Command, command_of};
@@ -73,7 +69,6 @@ pub fn guard_main<S: Shelf, K: Sink>(
             tell(out, usage_text().as_bytes());
             Ending::Usage
         }
-        Command::Early { input } => turn_away(alloc, input, at_start(Refusal::NotYet), out),
         Command::Task(task) => carry_out(alloc, &task, shelf, out),
         Command::NoMemory => give_up(out),
     }

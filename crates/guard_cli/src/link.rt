@@ -60,7 +60,7 @@ fn sizes_of(objects: &[Object]) -> Sizes
 }
 
 /// How many bytes the sections of code have.
-fn code_bytes_of(sections: &[Section]) -> u64
+pub(crate) fn code_bytes_of(sections: &[Section]) -> u64
     requires { length sections.now ≤ 1024 }
     ensures sum { result ≡ bytes_of is_code sections.now }
     ensures small { result ≤ 2 ^ 42 }

@@ -1,10 +1,10 @@
 //! Inputs: their bytes and their objects.
 
-ghost use Rattle.std.specs.Prelude.{◌≡◌, ◌≤◌, ℕ, List, length, map, All, IfOk, IfErr, OnOk, IsTrue, IsSome, MatchOption, string_bytes};
+ghost use Rattle.std.specs.Prelude.{◌≡◌, ◌<◌, ◌≤◌, ◌^◌, ℕ, List, length, map, All, IfOk, IfErr, OnOk, IsTrue, IsSome, MatchOption, string_bytes};
 ghost use Rattle.guard_io.specs.Outside.{IsLoaded};
 ghost use Rattle.elf_model.specs.Objects.{is_within};
-ghost use Rattle.guard_cli.specs.FirstForm.{at_start};
-ghost use Rattle.guard_cli.specs.Inputs.{AreReadAs, IsReadRefusal, IsTooLong, IsFaulty, IsTurnedDown, in_file, deny_in};
+ghost use Rattle.elf_read.specs.Faults.{dropped_count};
+ghost use Rattle.guard_cli.specs.Inputs.{AreReadAs, IsReadRefusal, IsTooLong, IsFaulty, IsTurnedDown, at_start, in_file, deny_in};
 ghost use Rattle.guard_cli.specs.LinkWork.{AreOf};
 ghost use Rattle.guard_cli.specs.Moments.{files_seen, screen_seen, IsHandedOn, CountsStay, Untouched};
 ghost use Rattle.guard_cli.specs.Steps.{contents_of, AddsLoaded, LoadFailsAs, LoadsFailAs};
@@ -92,6 +92,13 @@ pub(crate) fn load_all<S: Shelf, K: Sink>(
     load_all(alloc, later, limit, loaded, shelf, out)
 }
 
+/// The objects of inputs, and how many sections of each were left out.
+#[derive(Debug, Drop)]
+pub(crate) struct Inputs {
+    pub objects: Vec<Object>,
+    pub dropped: Vec<u32>,
+}
+
 /// The objects of inputs.
 pub(crate) fn objects_of(alloc: Global, files: &[Vec<u8>]) -> Result<Vec<Object>, Deny>
     requires { length files.now ≤ 16 }
@@ -100,41 +107,60 @@ pub(crate) fn objects_of(alloc: Global, files: &[Vec<u8>]) -> Result<Vec<Object>
     ensures within { IfOk result (λ objects. All (λ o. IsTrue (is_within o Limit.ANY)) objects.items) }
     ensures refused { IfErr result (IsTurnedDown (IsReadRefusal Limit.ANY (contents_of files.now))) }
 {
-    if let Some(number) = first_too_long(files) {
+    let inputs = read_inputs(alloc, files, &Limit::ANY)?;
+    Ok(inputs.objects)
+}
+
+/// What is read of inputs that may have so much.
+pub(crate) fn read_inputs(alloc: Global, files: &[Vec<u8>], limit: &Limit) -> Result<Inputs, Deny>
+    requires few { length files.now ≤ 16 }
+    requires low { limit.now.file < 2 ^ 32 }
+    ensures taken { IfOk result (λ inputs. AreReadAs limit.now (contents_of files.now) inputs.objects.items) }
+    ensures dropped { IfOk result (λ inputs. inputs.dropped.items ≡ map dropped_count (contents_of files.now)) }
+    ensures within { IfOk result (λ inputs. All (λ o. IsTrue (is_within o limit.now)) inputs.objects.items) }
+    ensures refused { IfErr result (IsTurnedDown (IsReadRefusal limit.now (contents_of files.now))) }
+{
+    if let Some(number) = first_too_long(files, limit) {
         return Err(Deny::Refused(in_file(number, at_start(Refusal::TooLong))));
     }
-    read_all(alloc, files)
+    read_all(alloc, files, limit)
 }
 
 /// The number of the first file that is longer than it may be.
-fn first_too_long(files: &[Vec<u8>]) -> Option<u32>
+fn first_too_long(files: &[Vec<u8>], limit: &Limit) -> Option<u32>
     requires { length files.now ≤ 16 }
-    ensures { MatchOption result (All (λ f. length f ≤ Limit.ANY.file) (contents_of files.now))
-        (λ k. IsTooLong Limit.ANY (contents_of files.now) (in_file k (at_start Refusal.TooLong))) }
+    ensures { MatchOption result (All (λ f. length f ≤ limit.now.file) (contents_of files.now))
+        (λ k. IsTooLong limit.now (contents_of files.now) (in_file k (at_start Refusal.TooLong))) }
 {
     for (k, file) in files.iter().enumerate() {
-        if file.len() > Limit::ANY.file as usize {
+        if file.len() > limit.file as usize {
             return Some(k as u32);
         }
     }
     None
 }
 
-/// The objects of files none of which is too long, or the first fault of the first that has one.
-fn read_all(alloc: Global, files: &[Vec<u8>]) -> Result<Vec<Object>, Deny>
+/// What is read of files none of which is too long, or the first fault of the first that has one.
+fn read_all(alloc: Global, files: &[Vec<u8>], limit: &Limit) -> Result<Inputs, Deny>
     requires few { length files.now ≤ 16 }
-    requires short { All (λ f. length f ≤ Limit.ANY.file) (contents_of files.now) }
-    ensures read { IfOk result (λ objects. AreReadAs Limit.ANY (contents_of files.now) objects.items) }
-    ensures refused { IfErr result (IsTurnedDown (IsFaulty Limit.ANY (contents_of files.now))) }
+    requires low { limit.now.file < 2 ^ 32 }
+    requires short { All (λ f. length f ≤ limit.now.file) (contents_of files.now) }
+    ensures read { IfOk result (λ inputs. AreReadAs limit.now (contents_of files.now) inputs.objects.items) }
+    ensures dropped { IfOk result (λ inputs. inputs.dropped.items ≡ map dropped_count (contents_of files.now)) }
+    ensures refused { IfErr result (IsTurnedDown (IsFaulty limit.now (contents_of files.now))) }
 {
     let mut objects = Vec::new(alloc);
+    let mut dropped = Vec::new(alloc);
     for (k, file) in files.iter().enumerate() {
-        match read_object(alloc, file, &Limit::ANY) {
-            Ok(read) => objects.push(read.object)?,
+        match read_object(alloc, file, limit) {
+            Ok(read) => {
+                dropped.push(read.dropped)?;
+                objects.push(read.object)?;
+            }
             Err(why) => return Err(deny_in(k as u32, why)),
         }
     }
-    Ok(objects)
+    Ok(Inputs { objects, dropped })
 }
 
 /// The same of the input of this number.
@@ -148,7 +174,7 @@ fn deny_in(number: u32, why: Deny) -> Deny
 }
 
 /// A place in the input of this number.
-fn in_file(number: u32, spot: Spot) -> Spot
+pub(crate) fn in_file(number: u32, spot: Spot) -> Spot
     ensures { result ≡ in_file number spot }
 {
     Spot {

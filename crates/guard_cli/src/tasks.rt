@@ -1,6 +1,7 @@
 //! A command that is carried out, and what is made of its inputs.
 
 ghost use Rattle.std.specs.Prelude.{◌≡◌, IfOk, IfErr, [], ◌∷◌, length, map, string_bytes};
+ghost use Rattle.guard_words.specs.Tasks.{pairs_in};
 ghost use Rattle.guard_cli.specs.Inputs.{IsTurnedDown};
 ghost use Rattle.guard_cli.specs.Steps.{names_by, limit_by, work_by, HasFewInputs, IsSound, contents_of, IsMadeBy, IsSaving, IsSaying};
 
@@ -57,7 +58,7 @@ pub(crate) fn names_of(alloc: Global, task: &Task<'_>) -> Result<Vec<String>, Al
     ensures { IfOk result (λ names. map string_bytes names.items ≡ names_by task.now) }
 {
     match task {
-        Task::Harden { input, .. } => one_name(alloc, input),
+        Task::Harden { names } => input_names(alloc, names),
         Task::Link(command) => all_names(alloc, command.inputs),
         Task::Run(command) => all_names(alloc, command.inputs),
         Task::List { input } => one_name(alloc, input),
@@ -76,6 +77,19 @@ fn all_names(alloc: Global, names: &[String]) -> Result<Vec<String>, AllocError>
     let mut copied = Vec::new(alloc);
     for name in names {
         copied.push(String::from_str(alloc, name.as_str())?)?;
+    }
+    Ok(copied)
+}
+
+/// The inputs of pairs, whose names stand in turn.
+fn input_names(alloc: Global, names: &[String]) -> Result<Vec<String>, AllocError>
+    ensures { IfOk result (λ copied. map string_bytes copied.items ≡ map (λ p. p.input) (pairs_in (map string_bytes names.now))) }
+{
+    let mut copied = Vec::new(alloc);
+    let mut rest = names;
+    while let [input, _, later @ ..] = rest {
+        copied.push(String::from_str(alloc, input.as_str())?)?;
+        rest = later;
     }
     Ok(copied)
 }
@@ -99,7 +113,7 @@ pub(crate) fn decide(alloc: Global, task: &Task<'_>, files: &[Vec<u8>]) -> Resul
     ensures refused { let w = work_by task.now in IfErr result (IsTurnedDown (w.Refuses (contents_of files.now))) }
 {
     match task {
-        Task::Harden { output, .. } => harden::decide(alloc, output, &files[0]),
+        Task::Harden { names } => harden::decide(alloc, names, files),
         Task::Link(command) => link::decide(alloc, command, files),
         Task::Run(command) => run::decide(alloc, command, files),
         Task::List { .. } => list::decide(alloc, &files[0]),

@@ -1,8 +1,10 @@
 //! What is printed.
 
-ghost use Rattle.std.specs.Prelude.{◌≡◌, ◌∷◌, [], IfOk, string_bytes};
+ghost use Rattle.std.specs.Prelude.{◌≡◌, IfOk, fold, length, map, max, string_bytes};
+ghost use Rattle.std.specs.List.{flat_map};
+ghost use Rattle.guard_words.specs.Tasks.{pairs_in};
 ghost use Rattle.guard_cli.specs.Texts.{usage_line, no_memory_line, read_fault_line, write_fault_line, refused_line, details, yes_or_no, tally_line, report, link_line, returned_line, stopped_line, unfinished_line, word_text, fault_name};
-ghost use Rattle.guard_cli.specs.Steps.{tally_with};
+ghost use Rattle.guard_cli.specs.HardenSteps.{tally_with, tallies_with};
 
 use elf_model::{Refusal, Spot};
 use std::alloc::{AllocError, Global};
@@ -80,23 +82,53 @@ pub(crate) struct Counts {
     pub functions: u32,
     pub before: u32,
     pub after: u32,
-    pub old_bytes: u32,
-    pub new_bytes: u32,
+    pub old_bytes: u64,
+    pub new_bytes: u64,
     pub dropped: u32,
     pub factor: u32,
 }
 
-/// The report on one output: its line, and the greatest factor.
+/// The report on the outputs of pairs: the line of each, and the greatest factor.
 pub(crate) fn report_text(
     alloc: Global,
-    output: &str,
-    counts: &Counts,
+    names: &[String],
+    counts: &[Counts],
 ) -> Result<String, AllocError>
-    ensures { IfOk result (λ text. string_bytes text ≡ report (tally_with output.now counts.now ∷ [])) }
+    requires { length counts.now ≡ length (pairs_in (map string_bytes names.now)) }
+    ensures { IfOk result (λ text. string_bytes text ≡ report (tallies_with (pairs_in (map string_bytes names.now)) counts.now)) }
 {
-    let line = tally_text(alloc, output, counts)?;
-    let factor = counts.factor.max(1);
-    format!(in alloc; "{line}factor {factor}\n")
+    let lines = lines_text(alloc, names, counts)?;
+    let factor = greatest_factor(counts);
+    format!(in alloc; "{lines}factor {factor}\n")
+}
+
+/// The lines of outputs.
+fn lines_text(alloc: Global, names: &[String], counts: &[Counts]) -> Result<String, AllocError>
+    requires { length counts.now ≡ length (pairs_in (map string_bytes names.now)) }
+    ensures { IfOk result (λ text. string_bytes text ≡ flat_map tally_line (tallies_with (pairs_in (map string_bytes names.now)) counts.now)) }
+{
+    let mut lines = String::new(alloc);
+    let mut rest = names;
+    for counted in counts {
+        let [_, output, later @ ..] = rest else {
+            unreachable!();
+        };
+        let line = tally_text(alloc, output.as_str(), counted)?;
+        lines.push_str(line.as_str())?;
+        rest = later;
+    }
+    Ok(lines)
+}
+
+/// The greatest factor, at least 1.
+fn greatest_factor(counts: &[Counts]) -> u32
+    ensures { result ≡ fold max 1 (map (λ n. n.factor) counts.now) }
+{
+    let mut factor = 1;
+    for counted in counts {
+        factor = factor.max(counted.factor);
+    }
+    factor
 }
 
 /// The line of one output.

@@ -1,10 +1,11 @@
 -- Words that are names by pairs.
-use Rattle.std.proofs.Common.{◌≡◌, ◌/◌, ◌%◌, ℕ, zero, suc, ◌*◌, ◌<◌, ◌≤◌, List, [], ◌∷◌, length, map, get_or, refl, sym, ap, ◌∙◌, subst, arith}
+use Rattle.std.proofs.Common.{◌≡◌, ◌/◌, ◌%◌, ℕ, zero, suc, ◌*◌, ◌≤◌, List, [], ◌∷◌, length, map, refl, sym, ap, ◌∙◌, subst, arith}
 use Rattle.std.specs.Prelude.{All, codes}
 use Rattle.std.specs.List.{flat_map}
-use Rattle.std.proofs.lemmas.List.{length-map, get_or-map}
+use Rattle.std.proofs.lemmas.List.{length-map}
 use Rattle.std.proofs.lemmas.List.Elements.{All-map}
 use Rattle.guard_words.specs.Words.{Pair, IsFileName, IsHarden, names_of}
+use Rattle.guard_words.specs.Tasks.{pairs_in}
 
 -- words that are `harden` with pairs
 abbrev pub IsSomeHarden : List (List ℕ) → Type 0
@@ -117,28 +118,17 @@ named_of word names (pairs, h) =
 pub nothing_is_no_command : IsSomeHarden [] → ⊥
 nothing_is_no_command (pairs, h) = let e = h.words_are in cc
 
--- A command has three words at least.
-pub command_length : (words : List (List ℕ)) → IsSomeHarden words → 3 ≤ length words
-command_length words (pairs, h) =
-    let e = ap length h.words_are in
-    let n = (names_of_pairs pairs h.inputs h.outputs).0 in
-    let s = h.some in
-    omega arith
+-- What is read of the names of pairs is these pairs.
+pairs_read : (pairs : List Pair) → pairs_in (flat_map names_of pairs) ≡ pairs
+pairs_read [] = refl
+pairs_read (p ∷ pairs) = ap (λ (l : List Pair). p ∷ l) (pairs_read pairs)
 
--- With more words, it has two pairs at least, of which the first begins with the second word.
-pub several_of : (words : List (List ℕ)) (input : List ℕ) → IsSomeHarden words → 3 < length words → get_or words 1 input ≡ input → (first second : Pair) × (rest : List Pair) × IsHarden words (first ∷ second ∷ rest) × (input ≡ first.input)
-several_of words input ([], h) long e = absurd (let s = h.some in omega arith)
-several_of words input (p ∷ [], h) long e = absurd (let n = ap length h.words_are in omega arith)
-several_of words input (p ∷ q ∷ rest, h) long e = (p, q, rest, h, sym e ∙ ap (λ l. get_or l 1 input) h.words_are)
-
--- With three words, it has one pair.
-pub one_of : (words : List (List ℕ)) (input output : List ℕ) → IsSomeHarden words → length words ≤ 3 → get_or words 1 input ≡ input → get_or words 2 output ≡ output → IsHarden words (record { input = input; output = output } ∷ [])
-one_of words input output ([], h) short i o = absurd (let s = h.some in omega arith)
-one_of words input output (p ∷ q ∷ rest, h) short i o = absurd (let n = ap length h.words_are in omega arith)
-one_of words input output (p ∷ [], h) short i o =
-    let pi : p.input ≡ input = sym (ap (λ l. get_or l 1 input) h.words_are) ∙ i in
-    let po : p.output ≡ output = sym (ap (λ l. get_or l 2 output) h.words_are) ∙ o in
-    subst (λ q. IsHarden words (q ∷ [])) (same_pair p (record { input = input; output = output }) pi po) h
+-- Names that are a command's are so with the pairs that are read of them.
+pub harden_read : (names : List (List ℕ)) → IsSomeHarden (codes "harden" ∷ names) → IsHarden (codes "harden" ∷ names) (pairs_in names)
+harden_read names (pairs, h) =
+    let e = h.words_are in
+    let l : names ≡ flat_map names_of pairs = cc in
+    subst (IsHarden (codes "harden" ∷ names)) (sym (ap pairs_in l ∙ pairs_read pairs)) h
 
 -- the names of texts
 pub all_unmap : {X : Type 0} (P : List ℕ → Type 0) (f : X → List ℕ) (xs : List X) → All P (map f xs) → All (λ x. P (f x)) xs
@@ -154,10 +144,3 @@ texts_of f xs h =
     let found = named_of (codes "harden") (map f xs) h in
     let named = found.1 in
     (found.0, sym (length-map xs f) ∙ named.count, named.some, named.few, all_unmap IsFileName f xs named.each)
-
--- a word that was read
-pub word_read : {X : Type 0} (f : X → List ℕ) (xs : List X) (i : ℕ) (x : X) → i < length xs → x ≡ get_or xs i x → get_or (map f xs) i (f x) ≡ f x
-word_read f xs i x h e = get_or-map f xs i x (f x) h ∙ ap f (sym e)
-
-pub only_pair : {p q : Pair} → p ∷ [] ≡ q ∷ [] → p ≡ q
-only_pair e = cc

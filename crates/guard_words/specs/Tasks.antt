@@ -1,13 +1,18 @@
 -- What the words mean of a command that is carried out.
-use Rattle.std.specs.Prelude.{[], ◌∷◌, map, string_bytes}
+use Rattle.std.specs.Prelude.{ℕ, List, [], ◌∷◌, map, string_bytes}
 use Rattle.guard_words.specs.declared.tasks.LinkCommand.{LinkCommand}
 use Rattle.guard_words.specs.declared.tasks.RunCommand.{RunCommand}
 use Rattle.guard_words.specs.declared.tasks.Skipped.{Skipped}
 use Rattle.guard_words.specs.declared.tasks.Skipped.TheVariants.{Listed, Drawn}
 use Rattle.guard_words.specs.declared.tasks.Task.{Task}
 use Rattle.guard_words.specs.declared.tasks.Task.TheVariants as task
-use Rattle.guard_words.specs.Words.{LinkWords, RunWords, Skips, listed, drawn}
+use Rattle.guard_words.specs.Words.{Pair, LinkWords, RunWords, Skips, listed, drawn}
 use Rattle.guard_words.specs.Meanings.{Meaning, harden, link, run, list}
+
+-- an input and its output in turn
+abbrev pub pairs_in : List (List ℕ) → List Pair
+pairs_in (input ∷ output ∷ names) = record { input = input; output = output } ∷ pairs_in names
+pairs_in names = []
 
 abbrev pub link_words : LinkCommand → LinkWords
 link_words c = record { at = c.at; output = c.output.now; inputs = map string_bytes c.inputs.now }
@@ -28,7 +33,7 @@ run_words c = record {
 
 -- what the words of a command mean that is carried out
 abbrev pub meaning_by : Task → Meaning
-meaning_by (task.Harden input output) = harden (record { input = input.now; output = output.now } ∷ [])
+meaning_by (task.Harden names) = harden (pairs_in (map string_bytes names.now))
 meaning_by (task.Link c) = link (link_words c)
 meaning_by (task.Run c) = run (run_words c)
 meaning_by (task.List input) = list input.now

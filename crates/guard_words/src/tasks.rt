@@ -6,8 +6,8 @@ use thumb_table::Placement;
 /// A command with its parameters.
 #[derive(Debug, Drop)]
 pub enum Task<'a> {
-    /// `harden` with one pair of files.
-    Harden { input: &'a str, output: &'a str },
+    /// `harden`, with the names of an input and its output in turn.
+    Harden { names: &'a [String] },
     /// `link`.
     Link(LinkCommand<'a>),
     /// `run`.

@@ -18,8 +18,6 @@ use std::alloc::Global;
 pub enum Command<'a> {
     /// No command.
     Unknown,
-    /// A command that is not handled yet, `harden` with several pairs; the first input.
-    Early { input: &'a str },
     /// A command that is carried out.
     Task(Task<'a>),
     /// A command whose plan or file word could not be read for want of memory.
@@ -51,20 +49,11 @@ pub fn command_of<'a>(alloc: Global, words: &'a [String]) -> Command<'a>
 fn harden_of<'a>(names: &'a [String]) -> Command<'a>
     ensures { IsUnderstoodAs (codes "harden" ∷ map string_bytes names.now) result }
 {
-    if !are_pairs(names) {
-        return Command::Unknown;
+    if are_pairs(names) {
+        Command::Task(Task::Harden { names })
+    } else {
+        Command::Unknown
     }
-    let input = &names[0];
-    let output = &names[1];
-    if names.len() > 2 {
-        return Command::Early {
-            input: input.as_str(),
-        };
-    }
-    Command::Task(Task::Harden {
-        input: input.as_str(),
-        output: output.as_str(),
-    })
 }
 
 /// Whether the names are those of one to sixteen pairs of files.

@@ -7,7 +7,7 @@ use Rattle.guard_cli.specs.Meant.{work_of}
 use Rattle.guard_words.specs.Tasks.{meaning_by}
 use Rattle.guard_cli.proofs.Answered.{ends_done}
 use Rattle.guard_cli.proofs.Carried.{untouched_here}
-use Rattle.guard_cli.proofs.EarlyWords.{early_ends, early_means, turned_not_misused, wanting_ends, wanting_means}
+use Rattle.guard_cli.proofs.WantingWords.{wanting_ends, wanting_means}
 use Rattle.guard_cli.proofs.Lawful.{work_is_lawful}
 use Rattle.guard_words.proofs.Meanings.{meant}
 use Rattle.guard_cli.proofs.CarriedTasks.{sound_by, few_by, inputs_there, not_misused}
@@ -28,37 +28,6 @@ returns-in-Unknown-clause-ends g c = λ m h. absurd (c.in-Unknown.ensures (m, h)
 
 pub returns-in-Unknown-clause-completes : goal.returns-in-Unknown-clause-completes
 returns-in-Unknown-clause-completes g c = λ m loaded h told has accepts calm. absurd (c.in-Unknown.ensures (m, h))
-
-pub returns-in-Early-clause-usage : goal.returns-in-Early-clause-usage
-returns-in-Early-clause-usage g c =
-    let screen = screen_seen g.K.Sink.tells g.K.Sink.written g.K.Sink.steady g.K.Sink.faults g.K.Sink.wants in (
-      λ e. absurd (turned_not_misused c.in-Early.input.now c.at_start.result (screen c.args.out.now) (screen c.turn_away.new.out) c.turn_away.result c.turn_away.ensures.ending e),
-      λ none. let e = early_means (map string_bytes c.args.words.now) c.in-Early.input.now c.in-Early.ensures in absurd (none e.0 e.1),
-    )
-
-pub returns-in-Early-clause-misused : goal.returns-in-Early-clause-misused
-returns-in-Early-clause-misused g c =
-    let screen = screen_seen g.K.Sink.tells g.K.Sink.written g.K.Sink.steady g.K.Sink.faults g.K.Sink.wants in
-    λ e. absurd (turned_not_misused c.in-Early.input.now c.at_start.result (screen c.args.out.now) (screen c.turn_away.new.out) c.turn_away.result c.turn_away.ensures.ending e)
-
-pub returns-in-Early-clause-ends : goal.returns-in-Early-clause-ends
-returns-in-Early-clause-ends g c = λ m means.
-    let files = files_seen g.S.Shelf.tells g.S.Shelf.file g.S.Shelf.steady g.S.Shelf.load_faults g.S.Shelf.save_faults in
-    let screen = screen_seen g.K.Sink.tells g.K.Sink.written g.K.Sink.steady g.K.Sink.faults g.K.Sink.wants in
-    let input = c.in-Early.input.now in
-    let here = files c.args.shelf.now in
-    early_ends here here (screen c.args.out.now) (screen c.turn_away.new.out) c.turn_away.result (map string_bytes c.args.words.now) input m c.in-Early.ensures
-    (record { untouched = untouched_here here; loads = refl; turned = rw c.at_start.ensures at c.turn_away.ensures.ending }) means
-
-pub returns-in-Early-clause-completes : goal.returns-in-Early-clause-completes
-returns-in-Early-clause-completes g c = λ m loaded means told has accepts calm.
-    let files = files_seen g.S.Shelf.tells g.S.Shelf.file g.S.Shelf.steady g.S.Shelf.load_faults g.S.Shelf.save_faults in
-    let screen = screen_seen g.K.Sink.tells g.K.Sink.written g.K.Sink.steady g.K.Sink.faults g.K.Sink.wants in
-    let input = c.in-Early.input.now in
-    let here = files c.args.shelf.now in
-    ends_done (work_of m) (work_is_lawful m) here here (screen c.args.out.now) (screen c.turn_away.new.out) loaded told has accepts calm c.turn_away.result
-    (early_ends here here (screen c.args.out.now) (screen c.turn_away.new.out) c.turn_away.result (map string_bytes c.args.words.now) input m c.in-Early.ensures
-    (record { untouched = untouched_here here; loads = refl; turned = rw c.at_start.ensures at c.turn_away.ensures.ending }) means)
 
 pub carry_out-requires-clause-sound : goal.carry_out-requires-clause-sound
 carry_out-requires-clause-sound g c = sound_by (map string_bytes c.args.words.now) c.in-Task.task c.in-Task.ensures

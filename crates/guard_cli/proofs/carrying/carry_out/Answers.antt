@@ -7,7 +7,7 @@ use Rattle.guard_cli.specs.Works.{Input, inputs_of, input_named}
 use Rattle.guard_cli.specs.Steps.{work_by, names_by, limit_by, saves_of, contents_of, AddsLoaded, IsMadeBy, MadeEndsAs}
 use Rattle.guard_words.specs.Tasks.{meaning_by}
 use Rattle.guard_cli.proofs.Carried.{made_comes}
-use Rattle.guard_cli.proofs.CarriedTasks.{comes_ends, has_loaded, its_inputs, loaded_count, unloaded_ends, refused_comes}
+use Rattle.guard_cli.proofs.CarriedTasks.{has_loaded, its_inputs, loaded_count, unloaded_ends, refused_comes}
 use Rattle.guard_cli.proofs.Loaded.{contents_count}
 use Rattle.guard_cli.proofs.Lawful.{work_is_lawful}
 use Rattle.guard_cli.proofs.carrying.carry_out.Goals as goal
@@ -56,10 +56,9 @@ returns-in-Ok-decide-clause-ends g c =
     let ends = subst (λ k. MadeEndsAs made mid new (screen k) after c.finish.result) c.in-Ok-load_all.ensures.silent c.finish.ensures.ends in
     let is_made = subst (λ (l : List (Vec ℕ Global)). IsMadeBy (work_by task) (contents_of l) made) c.deref-2.ensures.value c.in-Ok-decide.ensures.made in
     let lawful = work_is_lawful (meaning_by task) in
-    comes_ends task old new (screen c.args.out.now) after c.finish.result
-    (made_comes (work_by task) loaded (saves_of made.outputs.items) made.report.items made.stopped old mid new (screen c.args.out.now) after c.finish.result lawful.promises
+    made_comes (work_by task) loaded (saves_of made.outputs.items) made.report.items made.stopped old mid new (screen c.args.out.now) after c.finish.result lawful.promises
     (has_loaded task limit names old loaded c.limit_of.ensures named adds)
-    (record { same = c.load_all.ensures.untouched; steady = c.load_all.ensures.handed_on.steady_files }) is_made ends)
+    (record { same = c.load_all.ensures.untouched; steady = c.load_all.ensures.handed_on.steady_files }) is_made ends
 
 pub returns-in-Err-Refused-clause-ends : goal.returns-in-Err-Refused-clause-ends
 returns-in-Err-Refused-clause-ends g c =

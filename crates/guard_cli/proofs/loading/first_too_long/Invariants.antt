@@ -1,8 +1,7 @@
 use Rattle.std.proofs.Common.{◌≤◌, take, length}
 use Rattle.std.specs.Prelude.{All}
-use Rattle.elf_model.specs.declared.refusals.TheConstants.Limit.{ANY}
 use Rattle.guard_cli.specs.Steps.{contents_of}
 use Rattle.guard_cli.proofs.loading.first_too_long.Given as goal
 
 abbrev pub invariant-loop-k : goal.invariant-loop-k
-invariant-loop-k l = All (λ f. length f ≤ ANY.file) (contents_of (take l.k l.files))
+invariant-loop-k l = All (λ f. length f ≤ l.limit.file) (contents_of (take l.k l.files))
