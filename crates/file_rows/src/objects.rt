@@ -140,7 +140,7 @@ fn names_refusals(rt: HostRuntime) {
         (Refusal::ReadsAndSetsFlags, 15, "ReadsAndSetsFlags"),
         (Refusal::LiveAtEntry { register: 12 }, 21, "LiveAtEntry"),
         (Refusal::Duplicate { symbol: 4 }, 27, "Duplicate"),
-        (Refusal::NotYet, 32, "NotYet"),
+        (Refusal::TooLong, 31, "TooLong"),
     ] {
         assert_eq!(rt; refusal.number(), number, "{name}");
         assert_eq!(rt; refusal.name(), name, "{number}");
