@@ -1,0 +1,2 @@
+pub mod GeneratedCode
+pub mod GeneratedFlow
