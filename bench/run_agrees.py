@@ -25,12 +25,12 @@ def made(words):
     return done.stdout
 
 
-def objects_at(folder, level, names):
+def objects_at(folder, level, names, flags=()):
     """An object for each function, without relocations."""
     objects = {}
     for name in names:
         objects[name] = os.path.join(folder, name + level + ".o")
-        made(COMPILE + [level, "-c", "-DFUNCTION_" + name, SOURCE, "-o", objects[name]])
+        made(COMPILE + [level, *flags, "-c", "-DFUNCTION_" + name, SOURCE, "-o", objects[name]])
         if "There are no relocations" not in made(["arm-none-eabi-readelf", "-r", objects[name]]):
             sys.exit(objects[name] + " has relocations")
     return objects
@@ -88,15 +88,20 @@ def compared(program, name, level, path, given):
     return agree, "%s %d of %d%s" % (level, agree, len(ARGUMENTS), span)
 
 
-def main():
-    folder, names = sys.argv[1], sys.argv[2:]
-    program = shlex.split(os.environ["SKIPGUARD"])
+def named(names):
+    """These functions, or all of them where there are none."""
     with open(SOURCE) as source:
         known = re.findall(r"^#ifdef FUNCTION_(\w+)$", source.read(), re.M)
-    names = names or known
     for name in names:
         if name not in known:
             sys.exit(name + " is no function of functions.c")
+    return names or known
+
+
+def main():
+    folder = sys.argv[1]
+    program = shlex.split(os.environ["SKIPGUARD"])
+    names = named(sys.argv[2:])
     os.makedirs(folder, exist_ok=True)
     objects = {level: objects_at(folder, level, names) for level in LEVELS}
     given = {level: emulated(folder, level, objects[level]) for level in LEVELS}
@@ -112,4 +117,5 @@ def main():
     sys.exit(0 if total == runs else 1)
 
 
-main()
+if __name__ == "__main__":
+    main()
