@@ -1,6 +1,6 @@
 mod Examples
 mod Ranges
 mod Names
-mod Lengths
+pub mod Lengths
 mod Steps
-mod Sound
+pub mod Sound
