@@ -1,0 +1,4 @@
+pub mod CodeHalves
+pub mod CodeInstrs
+pub mod CodeLengths
+pub mod CodeStarts
