@@ -4,3 +4,4 @@ pub mod CodeLengths
 pub mod CodeStarts
 pub mod MadeLists
 pub mod ObjectRanges
+pub mod ObjectCalls
