@@ -5,3 +5,5 @@ pub mod CodeStarts
 pub mod MadeLists
 pub mod ObjectRanges
 pub mod ObjectCalls
+pub mod OtherInstrs
+pub mod KnownNodes
