@@ -1,19 +1,16 @@
 -- What the instructions of the generated code are, and that each stands where its place is.
-use Rattle.std.proofs.Common.{◌≡◌, ℕ, zero, suc, ◌+◌, ◌*◌, ◌/◌, ◌%◌, ◌^◌, ◌<◌, ◌≤◌, Bool, true, false, List, [], ◌∷◌, get_or, length, Option, Some, None, Ok, refl, sym, ap, ◌∙◌, subst, inl, inr, ◌⊎◌, arith, add-one, cond}
+use Rattle.std.proofs.Common.{◌≡◌, ℕ, zero, suc, ◌+◌, ◌*◌, ◌/◌, ◌^◌, ◌<◌, Bool, true, false, List, get_or, Some, None, Ok, refl, sym, ap, ◌∙◌, subst, arith, add-one, cond}
 use Rattle.std.specs.Prelude.{slice_index, if◌then◌else◌}
-use Rattle.std.proofs.lemmas.Bool.{true≢false}
 use Rattle.elf_model.specs.Fields.{half_at}
 use Rattle.elf_model.specs.Ranges.{is_long, length_at}
 use Rattle.thumb_instr.specs.declared.instructions.Instr.{Instr}
-use Rattle.thumb_instr.specs.declared.instructions.Instr.TheVariants as instr
 use Rattle.thumb_instr.specs.declared.refusals.ItPlace.TheVariants.{Outside}
 use Rattle.thumb_instr.specs.Operands.{has}
-use Rattle.thumb_instr.specs.Fields.{LiteralFields, ItFields, AdrFields}
 use Rattle.thumb_instr.specs.HalfRows.{half_rows}
 use Rattle.thumb_instr.specs.FullRows.{full_rows}
 use Rattle.thumb_instr.specs.Rows.{decode_given}
 use Rattle.skip_machine.specs.Draws.{draws}
-use Rattle.reloc_places.specs.Starts.{second_half, decoded_at, it_behind}
+use Rattle.reloc_places.specs.Starts.{decoded_at}
 use Rattle.reloc_places.specs.Relocations.{is_bl}
 use Rattle.gen_object.specs.Generated.{choices, choice, code_bytes}
 use Rattle.gen_flow.specs.GeneratedCode.{pushes, returns, calls, worked, drawn_instr, StandsAt}

@@ -6,6 +6,7 @@ use Rattle.elf_model.specs.Ranges.IsStart.{first as begins, next as follows}
 use Rattle.thumb_instr.specs.declared.instructions.Instr.{Instr}
 use Rattle.skip_machine.specs.Draws.{draws}
 use Rattle.reloc_places.specs.Relocations.{is_bl}
+use Rattle.reloc_places.proofs.StartFacts.{starts_in_range}
 use Rattle.flow_recover.specs.Reach.{falls}
 use Rattle.gen_object.specs.Generated.{code_bytes}
 use Rattle.gen_flow.specs.GeneratedCode.{pushes, returns, calls, drawn_instr, StandsAt}
@@ -139,3 +140,7 @@ module _ (seed count : ℕ) (some : 1 ≤ count) where
   falls_within x i (next k more place same) on = absurd (true≢false (sym on ∙ ap falls same))
   falls_within x i (back k more place same) on = absurd (true≢false (sym on ∙ ap falls same))
   falls_within x i (last k is place same) on = absurd (true≢false (sym on ∙ ap falls same))
+
+  -- Instructions stand apart.
+  pub stands_apart : (x y : ℕ) (i j : Instr) → StandsAt seed count x i → StandsAt seed count y j → x < y → x + length_at (code_bytes seed count) x ≤ y
+  stands_apart x y i j a b low = starts_in_range (code_bytes seed count) 0 (length (code_bytes seed count)) x y (stands_start x i a) (stands_start y j b) low

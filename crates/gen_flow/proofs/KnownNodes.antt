@@ -1,5 +1,5 @@
 -- Control reaches nothing but the generated instructions, outside of IT blocks.
-use Rattle.std.proofs.Common.{◌≡◌, ℕ, ◌+◌, ◌*◌, ◌-◌, ◌%◌, ◌<◌, ◌==◌, Bool, true, false, List, length, refl, sym, ap, ◌∙◌, subst, inl, inr, arith, Some, Ok}
+use Rattle.std.proofs.Common.{◌≡◌, ℕ, ◌+◌, ◌*◌, ◌<◌, ◌==◌, true, false, length, refl, sym, ap, ◌∙◌, subst, arith, Ok}
 use Rattle.std.specs.Prelude.{slice_get, ◌||◌}
 use Rattle.std.proofs.lemmas.Bool.{true≢false}
 use Rattle.std.proofs.lemmas.Option.{same_Some}
@@ -11,18 +11,18 @@ use Rattle.elf_model.specs.Objects.{even}
 use Rattle.thumb_instr.specs.declared.instructions.Instr.{Instr}
 use Rattle.thumb_instr.specs.Rows.{Answer}
 use Rattle.reloc_places.specs.Starts.{bytes_of, IsCodeStart, HasStart, instr_at, it_behind}
-use Rattle.reloc_places.specs.Relocations.{is_word, is_half, is_jump}
+use Rattle.reloc_places.specs.Relocations.{is_word, is_half}
 use Rattle.flow_recover.specs.Aims.{has_offset, aim_at, is_entry, IsAim, IsReference, IsNamed}
 use Rattle.flow_recover.specs.Aims.IsNamed.{by_symbol, by_address, by_branch}
-use Rattle.flow_recover.specs.Reach.{IsFound, LeadsOn, LeadsAway, IsReached, node_behind, node_at}
+use Rattle.flow_recover.specs.Reach.{IsFound, LeadsOn, LeadsAway, IsReached}
 use Rattle.flow_recover.specs.Reach.LeadsOn.{on}
 use Rattle.flow_recover.specs.Reach.LeadsAway.{away}
 use Rattle.flow_recover.specs.Reach.IsReached.{named, led_on, led_away}
 use Rattle.flow_recover.specs.FlowFaults.{IsReachedInstr}
-use Rattle.gen_object.specs.Generated.{code_bytes, function_symbol, call, generated}
-use Rattle.gen_flow.specs.GeneratedCode.{pushes, IsCount, StandsAt}
+use Rattle.gen_object.specs.Generated.{code_bytes, function_symbol, generated}
+use Rattle.gen_flow.specs.GeneratedCode.{IsCount, StandsAt}
 use Rattle.gen_flow.proofs.OtherInstrs.{stands_other, other_offset, other_behind, called}
-use Rattle.gen_flow.proofs.ObjectRanges.{IsSymbolOf, of_code, of_function, symbol_is, code_start, has_start}
+use Rattle.gen_flow.proofs.ObjectRanges.{of_code, of_function, symbol_is, code_start, has_start}
 use Rattle.gen_flow.proofs.ObjectCalls.{reloc_is, called_symbol, decoded_there, call_aim}
 
 abbrev home_of : Home → ℕ

@@ -7,3 +7,5 @@ pub mod ObjectRanges
 pub mod ObjectCalls
 pub mod OtherInstrs
 pub mod KnownNodes
+pub mod NoFaults
+pub mod KnownPoints

@@ -1,5 +1,5 @@
 -- The relocations of the generated object: each stands at a call, is right, and leads to the next function.
-use Rattle.std.proofs.Common.{◌≡◌, ℕ, zero, suc, ◌+◌, ◌*◌, ◌-◌, ◌%◌, ◌^◌, ◌<◌, ◌≤◌, ◌==◌, ◌&&◌, Bool, true, false, cond, List, length, refl, sym, ap, ◌∙◌, subst, arith, Option, Some, None, Ok, Err, ◌≢◌}
+use Rattle.std.proofs.Common.{◌≡◌, ℕ, suc, ◌+◌, ◌*◌, ◌-◌, ◌%◌, ◌^◌, ◌<◌, ◌≤◌, ◌==◌, ◌&&◌, Bool, true, false, length, refl, sym, ap, ◌∙◌, subst, arith, Some, None, Ok, Err, ◌≢◌}
 use Rattle.std.specs.Prelude.{slice_get}
 use Rattle.std.proofs.lemmas.Bool.{le-leb, cond-true, true≢false}
 use Rattle.std.proofs.lemmas.Bool.Decides.{nat_tests}
@@ -11,9 +11,8 @@ use Rattle.elf_model.specs.Objects.{place_width, even}
 use Rattle.elf_model.specs.Ranges.{length_at}
 use Rattle.thumb_instr.specs.declared.instructions.Instr.{Instr}
 use Rattle.thumb_instr.specs.declared.refusals.BadInstr.TheVariants.{Unknown}
-use Rattle.thumb_instr.specs.Rows.{Answer}
-use Rattle.reloc_places.specs.Starts.{bytes_of, decoded_at, instr_at}
-use Rattle.reloc_places.specs.Relocations.{IsPlace, IsRight, is_undefined, is_open_jump, number_in, addend, reloc_at, place_of, target_of}
+use Rattle.reloc_places.specs.Starts.{decoded_at, instr_at}
+use Rattle.reloc_places.specs.Relocations.{IsRight, is_undefined, number_in, addend, reloc_at, target_of}
 use Rattle.reloc_places.specs.Relocations.IsPlace.{on_instr}
 use Rattle.flow_recover.specs.Aims.{IsAim, aim_at}
 use Rattle.flow_recover.specs.Aims.IsAim.{by_offset, by_symbol, not_right}

@@ -7,7 +7,7 @@ use Rattle.skip_machine.specs.Draws.{draws}
 use Rattle.reloc_places.specs.Starts.{it_behind}
 use Rattle.reloc_places.specs.Relocations.{is_bl}
 use Rattle.flow_recover.specs.Aims.{is_branch, has_offset}
-use Rattle.gen_flow.specs.GeneratedCode.{pushes, drawn_instr, StandsAt}
+use Rattle.gen_flow.specs.GeneratedCode.{StandsAt}
 use Rattle.gen_flow.specs.GeneratedCode.StandsAt.{first, work, next, back, last}
 use Rattle.gen_flow.proofs.CodeInstrs.{drawn_each, drawn_no_call}
 
