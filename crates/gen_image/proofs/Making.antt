@@ -5,24 +5,6 @@ use Rattle.std.specs.List.{range_with_len}
 use Rattle.std.proofs.lemmas.Option.{none-some, same_Some}
 use Rattle.elf_model.proofs.Elements.{contains_cases, contains_none}
 
-pub made_at : {X : Type 0} (f : ℕ → X) (a n i : ℕ) (x : X) → slice_get (map f (range_with_len a n)) i ≡ Some x → (i < n) × (f (a + i) ≡ x)
-made_at f a zero i x e = absurd (none-some x e)
-made_at f a (suc n) zero x e =
-    let same : a + 0 ≡ a = omega arith in
-    (omega arith, ap f same ∙ same_Some (f a) x e)
-made_at f a (suc n) (suc i) x e =
-    let h = made_at f (a + 1) n i x e in
-    let low : i < n = h.0 in
-    let same : a + suc i ≡ (a + 1) + i = omega arith in
-    (omega arith, ap f same ∙ h.1)
-
-pub made_there : {X : Type 0} (f : ℕ → X) (a n i j : ℕ) → i < n → a + i ≡ j → slice_get (map f (range_with_len a n)) i ≡ Some (f j)
-made_there f a zero i j low e = absurd (omega arith)
-made_there f a (suc n) zero j low e =
-    let same : a ≡ j = omega arith in
-    ap (λ (k : ℕ). Some (f k)) same
-made_there f a (suc n) (suc i) j low e = made_there f (a + 1) n i j (omega arith) (omega arith)
-
 -- an element of one is made for a number of the range
 pub made_for : {X : Type 0} (f : ℕ → X) (a n : ℕ) (x : X) → Contains (map f (range_with_len a n)) x → (k : ℕ) × (a ≤ k) × (k < a + n) × (f k ≡ x)
 made_for f a zero x h = absurd (contains_none x h)

@@ -3,7 +3,7 @@ use Rattle.std.proofs.Common.{◌≡◌, ℕ, ◌+◌, ◌*◌, List, [], ◌∷
 use Rattle.elf_model.specs.declared.objects.Section.{Section}
 use Rattle.thumb_table.specs.Layouts.{Placed, all_placed, code_bytes_of, data_bytes_of}
 use Rattle.gen_object.specs.Generated.{code_bytes, text_section, generated}
-use Rattle.gen_object.proofs.Lengths.{code_length}
+use Rattle.gen_flow.proofs.CodeLengths.{code_length}
 use Rattle.gen_object.proofs.Sound.{is_sound}
 use Rattle.gen_flow.specs.GeneratedCode.{IsCount}
 use Rattle.gen_image.specs.GeneratedImages.{placement}

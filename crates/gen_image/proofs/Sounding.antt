@@ -1,19 +1,19 @@
 -- Nothing stands in the way of the image.
-use Rattle.std.proofs.Common.{◌≡◌, ◌<◌, ◌≤◌, ℕ, ◌+◌, ◌*◌, List, [], ◌∷◌, sym, ap, ◌∙◌, subst, inl, inr, arith, Some, None, Ok}
+use Rattle.std.proofs.Common.{◌≡◌, ◌<◌, ◌≤◌, ℕ, ◌+◌, List, [], ◌∷◌, sym, ap, ◌∙◌, subst, inl, inr, arith, Some, None}
 use Rattle.std.specs.Prelude.{Contains, slice_get}
 use Rattle.std.proofs.lemmas.Bool.{both_ways}
 use Rattle.std.proofs.lemmas.Option.{none-some, same_Some}
 use Rattle.elf_model.specs.declared.objects.Reloc.{Reloc}
 use Rattle.elf_model.specs.declared.refusals.Spot.{Spot}
 use Rattle.elf_model.specs.Objects.{ObjectParts}
-use Rattle.reloc_places.specs.Starts.{decoded_at}
 use Rattle.reloc_places.specs.Relocations.{IsRight}
 use Rattle.thumb_table.specs.Layouts.{all_placed}
 use Rattle.thumb_table.specs.Names.{Defined, meant, globals}
 use Rattle.thumb_table.specs.Links.{is_in_range}
 use Rattle.thumb_table.specs.LinkFaults.{NamesNothing, IsSecond, LinkFault, misplaced, undefined, defined_twice, long_code, long_data, high_end, out_of_range}
-use Rattle.gen_object.specs.Generated.{code_bytes, function_symbol, call, generated}
-use Rattle.gen_flow.specs.GeneratedCode.{IsCount, calls}
+use Rattle.gen_object.specs.Generated.{function_symbol, generated}
+use Rattle.gen_flow.specs.GeneratedCode.{IsCount}
+use Rattle.gen_flow.proofs.ObjectCalls.{call_right}
 use Rattle.gen_image.specs.GeneratedImages.{placement}
 use Rattle.gen_image.proofs.Making.{made_for}
 use Rattle.gen_image.proofs.Placing.{code_is_long}
@@ -43,12 +43,7 @@ no_second seed count d few h =
       | inr later ↦ let less = later.1 in omega arith
     ]
 
--- that a relocation is right, and that a call is an instruction
-pub record IsCalled (seed count k : ℕ) : Type 0 where
-  pub right : IsRight (generated seed count) k (call k)
-  pub there : decoded_at (code_bytes seed count) (14 * k + 8) 0 ≡ Ok calls
-
-module _ (seed count : ℕ) (few : IsCount count) (called : (k : ℕ) → k + 1 < count → IsCalled seed count k) where
+module _ (seed count : ℕ) (few : IsCount count) where
   no_nothing : (i k : ℕ) (r : Reloc) → NamesNothing (generated seed count ∷ []) i k r → ⊥
   no_nothing i k r h =
       let one = reloc_is seed count i k h.object r h.there in
@@ -64,7 +59,7 @@ module _ (seed count : ℕ) (few : IsCount count) (called : (k : ℕ) → k + 1 
   pub no_fault : (spot : Spot) → LinkFault (generated seed count ∷ []) placement spot → ⊥
   no_fault _ (misplaced i k o r there wrong) =
       let one = reloc_is seed count i k o r there in
-      wrong (subst (λ (z : ObjectParts). IsRight z k r) one.1 (subst (λ (q : Reloc). IsRight (generated seed count) k q) one.3 (called k one.2).right))
+      wrong (subst (λ (z : ObjectParts). IsRight z k r) one.1 (subst (λ (q : Reloc). IsRight (generated seed count) k q) one.3 (call_right seed count few.low k one.2)))
   no_fault _ (undefined i k r h first) = no_nothing i k r h
   no_fault _ (defined_twice d h first) = no_second seed count d few.high h
   no_fault _ (long_code long) = let size = code_is_long seed count few in let high = few.high in omega arith
@@ -73,4 +68,4 @@ module _ (seed count : ℕ) (few : IsCount count) (called : (k : ℕ) → k + 1 
   no_fault _ (out_of_range l is out) =
       let one = link_is seed count l few.high is in
       both_ways (is_in_range (all_placed (generated seed count ∷ []) placement) l) out
-      (ap (is_in_range (all_placed (generated seed count ∷ []) placement)) one.1 ∙ in_range seed count l.number few one.0 (called l.number one.0).there)
+      (ap (is_in_range (all_placed (generated seed count ∷ []) placement)) one.1 ∙ in_range seed count l.number few one.0)

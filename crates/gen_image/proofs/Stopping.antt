@@ -11,9 +11,10 @@ use Rattle.thumb_table.specs.Layouts.{Placed}
 use Rattle.thumb_table.specs.Names.{Defined, all_symbols, is_function, address_of}
 use Rattle.thumb_table.specs.Images.{IsDataStart, IsStop, at_function, at_data, at_end}
 use Rattle.gen_object.specs.Generated.{code_symbol, function_symbol, code_bytes, generated}
-use Rattle.gen_object.proofs.Lengths.{code_length}
+use Rattle.gen_flow.proofs.CodeLengths.{code_length}
 use Rattle.gen_flow.specs.GeneratedCode.{IsCount}
-use Rattle.gen_image.proofs.Making.{made_at, sole, contains_sole}
+use Rattle.gen_flow.proofs.MadeLists.{made_at}
+use Rattle.gen_image.proofs.Making.{sole, contains_sole}
 use Rattle.gen_image.proofs.Placing.{part}
 use Rattle.gen_image.proofs.Symbols.{symbol_is}
 
@@ -24,7 +25,7 @@ Stop count a = ((k : ℕ) × k < count × (a ≡ 0x8000 + 14 * k)) ⊎ (a ≡ 0x
 -- no symbol says that data begins
 no_data_symbol : (count i : ℕ) (s : Symbol) → slice_get (code_symbol ∷ map (function_symbol count) (range_with_len 0 count)) i ≡ Some s → is_mapping_of (codes "$d") s ≡ false
 no_data_symbol count zero s e = ap (is_mapping_of (codes "$d")) (sym (same_Some code_symbol s e))
-no_data_symbol count (suc i) s e = ap (is_mapping_of (codes "$d")) (sym (made_at (function_symbol count) 0 count i s e).1)
+no_data_symbol count (suc i) s e = ap (is_mapping_of (codes "$d")) (made_at (function_symbol count) count i s e).1
 
 no_data_start : (seed count j x : ℕ) → IsDataStart (generated seed count) j x → ⊥
 no_data_start seed count j x h = both_ways (is_mapping_of (codes "$d") h.symbol) (no_data_symbol count h.index h.symbol h.is_there) h.is_kind

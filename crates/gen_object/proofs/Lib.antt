@@ -1,6 +1,6 @@
 mod Examples
 mod Ranges
 mod Names
-pub mod Lengths
+mod Lengths
 mod Steps
 pub mod Sound
