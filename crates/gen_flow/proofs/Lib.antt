@@ -1,0 +1,11 @@
+pub mod CodeHalves
+pub mod CodeInstrs
+pub mod CodeLengths
+pub mod CodeStarts
+pub mod MadeLists
+pub mod ObjectRanges
+pub mod ObjectCalls
+pub mod OtherInstrs
+pub mod KnownNodes
+pub mod NoFaults
+pub mod KnownPoints

@@ -1,0 +1,11 @@
+pub mod Making
+pub mod Placing
+pub mod Numbering
+pub mod Symbols
+pub mod Linking
+pub mod Reaching
+pub mod Stopping
+pub mod Entering
+pub mod Sounding
+pub mod Fetching
+pub mod Knowing

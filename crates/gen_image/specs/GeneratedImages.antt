@@ -1,5 +1,5 @@
 -- The image of the generated object, at the placement of `make`.
-use Rattle.std.specs.Prelude.{◌≡◌, ◌<◌, ◌⊎◌, ℕ, pos, ◌+◌, ◌-◌, ◌*◌, List, [], ◌∷◌, Some, Ok, Contains, codes}
+use Rattle.std.specs.Prelude.{◌≡◌, ◌<◌, ◌⊎◌, ℕ, pos, ◌+◌, ◌-◌, ◌*◌, [], ◌∷◌, Some, Ok, Contains, codes}
 use Rattle.elf_model.specs.declared.refusals.Spot.{Spot}
 use Rattle.thumb_instr.specs.declared.instructions.Instr.{Instr}
 use Rattle.thumb_instr.specs.declared.instructions.Instr.TheVariants.{Call}

@@ -3,4 +3,4 @@ mod Ranges
 mod Names
 mod Lengths
 mod Steps
-mod Sound
+pub mod Sound

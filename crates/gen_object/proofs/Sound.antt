@@ -59,7 +59,7 @@ object_with code functions relocs symbols_are locals relocs_are rises =
     let section = section_with code in
     grind (arith, nat_tests, section, symbols_are, locals, relocs_are, rises)
 
-is_sound : (seed count : ℕ) → 1 ≤ count → count ≤ 4000 → is_object (generated seed count) ≡ true
+pub is_sound : (seed count : ℕ) → 1 ≤ count → count ≤ 4000 → is_object (generated seed count) ≡ true
 is_sound seed count some few =
     let long = code_length seed count some in
     let counted : length (code_symbol ∷ map (function_symbol count) (range_with_len 0 count)) ≡ suc count = ap suc (length-map-range_with_len (function_symbol count) 0 count) in
