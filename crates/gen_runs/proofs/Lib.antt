@@ -1,0 +1,9 @@
+pub mod Walking
+pub mod Standing
+pub mod Working
+pub mod Storing
+pub mod Framing
+pub mod Calling
+pub mod Placed
+pub mod Descending
+pub mod Begun
