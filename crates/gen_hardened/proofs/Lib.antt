@@ -1,0 +1,2 @@
+mod KnownInstrs
+mod LivePoints
