@@ -1,0 +1,4 @@
+mod InstrClasses
+mod KnownInstrs
+mod LivePoints
+mod ScratchPoints
