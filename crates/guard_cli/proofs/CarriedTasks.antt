@@ -22,18 +22,21 @@ sound_by words (task.Harden names) h = tt
 sound_by words (task.Link c) h = h.placed.sound
 sound_by words (task.Run c) h = (h.meant.placed.sound, h.meant.few_steps)
 sound_by words (task.List input) h = tt
+sound_by words (task.Make seed count) h = (h.count_is.some, h.count_is.few)
 
 pub few_by : (words : List (List ℕ)) (t : Task) → Means words (meaning_by t) → HasFewInputs t
-few_by words (task.Harden names) h = let count = length-map (pairs_in (map string_bytes names.now)) (λ (p : Pair). p.input) in record { some = omega (arith, count, h.some); few = omega (arith, count, h.few) }
-few_by words (task.Link c) h = record { some = h.some; few = h.few }
-few_by words (task.Run c) h = record { some = h.some; few = h.few }
-few_by words (task.List input) h = record { some = omega arith; few = omega arith }
+few_by words (task.Harden names) h = let count = length-map (pairs_in (map string_bytes names.now)) (λ (p : Pair). p.input) in omega (arith, count, h.few)
+few_by words (task.Link c) h = h.few
+few_by words (task.Run c) h = h.few
+few_by words (task.List input) h = omega arith
+few_by words (task.Make seed count) h = omega arith
 
 pub its_inputs : (t : Task) → (work_by t).inputs ≡ inputs_of (limit_by t) (names_by t)
 its_inputs (task.Harden names) = refl
 its_inputs (task.Link c) = refl
 its_inputs (task.Run c) = refl
 its_inputs (task.List input) = refl
+its_inputs (task.Make seed count) = refl
 
 -- No command that is carried out is answered as misused.
 pub not_misused : (t : Task) (old new : Files) (screen after : Screen) (ending : Ending) → EndsAs (work_by t) old new screen after ending → ending ≡ Usage → ⊥

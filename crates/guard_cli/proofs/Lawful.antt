@@ -1,12 +1,13 @@
 -- THE LAW OF WORKS: each keeps its promise, and what it accepts is neither refused nor stopped.
 use Rattle.std.proofs.Common.{ℕ, List, [], ◌∷◌}
 use Rattle.elf_model.specs.declared.refusals.Spot.{Spot}
-use Rattle.guard_words.specs.Words.{Pair, LinkWords, RunWords}
-use Rattle.guard_words.specs.Meanings.{Meaning, harden, link, run, list}
+use Rattle.guard_words.specs.Words.{Pair, LinkWords, RunWords, MakeWords}
+use Rattle.guard_words.specs.Meanings.{Meaning, harden, link, run, list, make}
 use Rattle.guard_cli.specs.HardenWork.{harden_work}
 use Rattle.guard_cli.specs.LinkWork.{link_work}
 use Rattle.guard_cli.specs.ListWork.{list_work}
 use Rattle.guard_cli.specs.MachineRuns.{call_of, run_work}
+use Rattle.guard_cli.specs.MakeWork.{make_work}
 use Rattle.guard_cli.specs.Meant.{work_of}
 use Rattle.guard_cli.proofs.Accepted.{hardenable_is_accepted, image_is_accepted, readable_is_accepted}
 use Rattle.guard_cli.proofs.Answered.{IsLawful}
@@ -46,8 +47,16 @@ run_lawful r = record {
   not_stopped = λ loaded outcome line accepts other stops. words_return r loaded outcome line accepts other stops;
 }
 
+make_lawful : (m : MakeWords) → IsLawful (make_work m)
+make_lawful m = record {
+  promises = λ loaded saves report old new makes told has saved. tt;
+  not_refused = λ loaded spot accepts refuses. refuses;
+  not_stopped = λ loaded outcome line accepts other stops. stops;
+}
+
 pub work_is_lawful : (m : Meaning) → IsLawful (work_of m)
 work_is_lawful (harden pairs) = harden_lawful pairs
 work_is_lawful (link l) = link_lawful l
 work_is_lawful (run r) = run_lawful r
 work_is_lawful (list input) = list_lawful input
+work_is_lawful (make m) = make_lawful m

@@ -11,4 +11,5 @@ pub mod Meant
 pub mod Statuses
 pub mod Promise
 pub mod ListWork
+pub mod MakeWork
 pub mod HardenSteps

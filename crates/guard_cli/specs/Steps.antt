@@ -35,17 +35,17 @@ names_by (task.Harden names) = map (λ (p : Pair). p.input) (pairs_in (map strin
 names_by (task.Link c) = map string_bytes c.inputs.now
 names_by (task.Run c) = map string_bytes c.inputs.now
 names_by (task.List input) = input.now ∷ []
+names_by (task.Make seed count) = []
 
 abbrev pub limit_by : Task → ℕ
 limit_by (task.Harden names) = INPUT.file
 limit_by (task.Link c) = ANY.file
 limit_by (task.Run c) = ANY.file
 limit_by (task.List input) = ANY.file
+limit_by (task.Make seed count) = ANY.file
 
--- one to sixteen inputs
-pub record HasFewInputs (t : Task) : Type 0 where
-  pub some : 1 ≤ length (names_by t)
-  pub few : length (names_by t) ≤ 16
+abbrev pub HasFewInputs : Task → Type 0
+HasFewInputs t = length (names_by t) ≤ 16
 
 -- numbers that the words of a command have
 abbrev pub IsSound : Task → Type 0
@@ -53,6 +53,7 @@ IsSound (task.Harden names) = ⊤
 IsSound (task.Link c) = IsPlacement c.at
 IsSound (task.Run c) = IsPlacement c.at × (c.steps ≤ 10000000)
 IsSound (task.List input) = ⊤
+IsSound (task.Make seed count) = (1 ≤ count) × (count ≤ 4000)
 
 -- what files hold
 abbrev pub contents_of : List (Vec ℕ Global) → List (List ℕ)

@@ -50,13 +50,14 @@ pub(crate) fn carry_out<S: Shelf, K: Sink>(
     }
 }
 
-/// The name of this number, or else the last.
+/// The name of this number, or else the last, or else none.
 fn name_at(names: &[String], number: u32) -> &str
-    requires { 1 ≤ length names.now }
     ensures { (limit : ℕ) → result.now ≡ input_named (inputs_of limit (map string_bytes names.now)) number }
 {
     if (number as usize) < names.len() {
         names[number as usize].as_str()
+    } else if names.is_empty() {
+        ""
     } else {
         names[names.len() - 1].as_str()
     }

@@ -8,6 +8,7 @@ mod harden;
 mod link;
 mod list;
 mod loading;
+mod make;
 mod outputs;
 mod run;
 mod tasks;

@@ -7,7 +7,7 @@ ghost use Rattle.guard_cli.specs.Steps.{names_by, limit_by, work_by, HasFewInput
 
 use crate::outputs::Output;
 use crate::texts::write_fault_text;
-use crate::{harden, link, list, run};
+use crate::{harden, link, list, make, run};
 use elf_model::{Deny, Limit};
 use guard_words::Task;
 use skip_machine::Outcome;
@@ -62,6 +62,7 @@ pub(crate) fn names_of(alloc: Global, task: &Task<'_>) -> Result<Vec<String>, Al
         Task::Link(command) => all_names(alloc, command.inputs),
         Task::Run(command) => all_names(alloc, command.inputs),
         Task::List { input } => one_name(alloc, input),
+        Task::Make { .. } => Ok(Vec::new(alloc)),
     }
 }
 
@@ -117,5 +118,6 @@ pub(crate) fn decide(alloc: Global, task: &Task<'_>, files: &[Vec<u8>]) -> Resul
         Task::Link(command) => link::decide(alloc, command, files),
         Task::Run(command) => run::decide(alloc, command, files),
         Task::List { .. } => list::decide(alloc, &files[0]),
+        Task::Make { seed, count } => Ok(make::decide(alloc, *seed, *count)?),
     }
 }

@@ -1,7 +1,6 @@
 -- Words say one thing at most.
 use Rattle.std.proofs.Common.{◌≡◌, ◌≤◌, ◌⊎◌, inl, inr, ℕ, false, List, [], ◌∷◌, length, get_or, Option, Some, None, refl, sym, ap, ◌∙◌, subst, arith}
 use Rattle.std.specs.Prelude.{All, codes}
-use Rattle.std.specs.List.{flat_map}
 use Rattle.std.proofs.lemmas.List.Elements.{All-head, All-tail}
 use Rattle.thumb_table.specs.declared.placements.Placement.{Placement}
 use Rattle.guard_words.specs.declared.options.OptionName.{OptionName}
@@ -10,13 +9,14 @@ use Rattle.guard_words.specs.declared.options.Options.{Options}
 use Rattle.guard_words.specs.declared.settings.Said.{Said}
 use Rattle.guard_words.specs.declared.settings.Schedule.{Schedule}
 use Rattle.guard_words.specs.declared.settings.Schedule.TheVariants.{Listed, Drawn}
-use Rattle.guard_words.specs.Words.{Pair, names_of, IsHarden, IsNumberOf, IsPlacedBy, LinkWords, IsLink, Skips, listed, drawn, AreSkips, RunWords, IsRunBy, IsRun, IsList, Setting, same_option, value_of, AreArranged}
-use Rattle.guard_words.specs.Meanings.{harden, link, run, list, IsCommand}
+use Rattle.guard_words.specs.Words.{Pair, IsHarden, IsNumber, IsNumberOf, IsPlacedBy, LinkWords, IsLink, Skips, listed, drawn, AreSkips, RunWords, IsRunBy, IsRun, IsList, MakeWords, IsMake, Setting, same_option, value_of, AreArranged}
+use Rattle.guard_words.specs.Meanings.{harden, link, run, list, make, IsCommand}
 use Rattle.guard_words.specs.Arranged.{value_in, AreOptions, IsPlacing, IsSaid, IsSchedule, IsListed, AreSkippedBy}
 use Rattle.guard_words.specs.Tasks.{skips_by}
 use Rattle.guard_words.specs.declared.tasks.Skipped.{Skipped}
 use Rattle.guard_words.specs.declared.tasks.Skipped.TheVariants as skipped
 use Rattle.skip_machine.proofs.PlanSteps.{same_plan}
+use Rattle.guard_words.proofs.FirstWords.{first_sign}
 use Rattle.guard_words.proofs.NumberTexts.{same_number}
 use Rattle.guard_words.proofs.Arrangements.{absent, same_arrangement}
 
@@ -81,83 +81,41 @@ same_placement value a b h k =
 same_values : (f g : OptionName → Option (List ℕ)) → ((name : OptionName) → f name ≡ g name) → f ≡ g
 same_values f g h = λ i name. h name i
 
--- the other first words
-harden_no_link : (rest more : List (List ℕ)) → codes "link" ∷ rest ≡ codes "harden" ∷ more → ⊥
-harden_no_link rest more e = cc
-
-harden_no_run : (rest more : List (List ℕ)) → codes "run" ∷ rest ≡ codes "harden" ∷ more → ⊥
-harden_no_run rest more e = cc
-
-link_no_run : (rest more : List (List ℕ)) → codes "run" ∷ rest ≡ codes "link" ∷ more → ⊥
-link_no_run rest more e = cc
-
--- the third letter of the first word
-abbrev third : List (List ℕ) → ℕ
-third words = get_or (get_or words 0 []) 2 0
-
-letters_differ : third (codes "link" ∷ []) ≡ third (codes "list" ∷ []) → ⊥
-letters_differ e = omega (arith, e)
-
-harden_no_list : (input : List ℕ) (more : List (List ℕ)) → codes "harden" ∷ more ≡ codes "list" ∷ input ∷ [] → ⊥
-harden_no_list input more e = cc
-
-link_no_list : (input : List ℕ) (more : List (List ℕ)) → codes "link" ∷ more ≡ codes "list" ∷ input ∷ [] → ⊥
-link_no_list input more e = letters_differ (ap third e)
-
-run_no_list : (input : List ℕ) (more : List (List ℕ)) → codes "run" ∷ more ≡ codes "list" ∷ input ∷ [] → ⊥
-run_no_list input more e = cc
-
-list_no_harden : (rest more : List (List ℕ)) → codes "list" ∷ rest ≡ codes "harden" ∷ more → ⊥
-list_no_harden rest more e = cc
-
-list_no_link : (rest more : List (List ℕ)) → codes "list" ∷ rest ≡ codes "link" ∷ more → ⊥
-list_no_link rest more e = letters_differ (sym (ap third e))
-
-list_no_run : (rest more : List (List ℕ)) → codes "list" ∷ rest ≡ codes "run" ∷ more → ⊥
-list_no_run rest more e = cc
-
-pub list_is_no_harden : (words : List (List ℕ)) (input : List ℕ) (pairs : List Pair) → IsList words input → IsHarden words pairs → ⊥
-list_is_no_harden words input pairs h k = harden_no_list input (flat_map names_of pairs) (sym k.words_are ∙ h.words_are)
-
-pub list_is_no_link : (words : List (List ℕ)) (input : List ℕ) (l : LinkWords) → IsList words input → IsLink words l → ⊥
-list_is_no_link words input l h k = link_no_list input k.rest (sym k.words_are ∙ h.words_are)
-
-pub list_is_no_run : (words : List (List ℕ)) (input : List ℕ) (r : RunWords) → IsList words input → IsRun words r → ⊥
-list_is_no_run words input r h k = run_no_list input k.rest (sym k.words_are ∙ h.words_are)
-
-pub harden_is_no_link : (words : List (List ℕ)) (pairs : List Pair) (l : LinkWords) → IsHarden words pairs → IsLink words l → ⊥
-harden_is_no_link words pairs l h k = harden_no_link k.rest (flat_map names_of pairs) (sym k.words_are ∙ h.words_are)
-
-pub harden_is_no_run : (words : List (List ℕ)) (pairs : List Pair) (r : RunWords) → IsHarden words pairs → IsRun words r → ⊥
-harden_is_no_run words pairs r h k = harden_no_run k.rest (flat_map names_of pairs) (sym k.words_are ∙ h.words_are)
-
-pub link_is_no_run : (words : List (List ℕ)) (l : LinkWords) (r : RunWords) → IsLink words l → IsRun words r → ⊥
-link_is_no_run words l r h k = link_no_run k.rest h.rest (sym k.words_are ∙ h.words_are)
-
 -- Words that begin with a command's name are that command or none.
 pub only_harden : (names : List (List ℕ)) → ((pairs : List Pair) → IsHarden (codes "harden" ∷ names) pairs → ⊥) → IsCommand (codes "harden" ∷ names) → ⊥
 only_harden names none (harden pairs, h) = none pairs h
-only_harden names none (link l, h) = harden_no_link h.rest names (sym h.words_are)
-only_harden names none (run r, h) = harden_no_run h.rest names (sym h.words_are)
-only_harden names none (list input, h) = harden_no_list input names h.words_are
+only_harden names none (link l, h) = let e = first_sign (codes "harden") names (link l) h in omega (arith, e)
+only_harden names none (run r, h) = let e = first_sign (codes "harden") names (run r) h in omega (arith, e)
+only_harden names none (list input, h) = let e = first_sign (codes "harden") names (list input) h in omega (arith, e)
+only_harden names none (make m, h) = let e = first_sign (codes "harden") names (make m) h in omega (arith, e)
 
 pub only_link : (rest : List (List ℕ)) → ((l : LinkWords) → IsLink (codes "link" ∷ rest) l → ⊥) → IsCommand (codes "link" ∷ rest) → ⊥
-only_link rest none (harden pairs, h) = harden_no_link rest (flat_map names_of pairs) h.words_are
+only_link rest none (harden pairs, h) = let e = first_sign (codes "link") rest (harden pairs) h in omega (arith, e)
 only_link rest none (link l, h) = none l h
-only_link rest none (run r, h) = link_no_run h.rest rest (sym h.words_are)
-only_link rest none (list input, h) = link_no_list input rest h.words_are
+only_link rest none (run r, h) = let e = first_sign (codes "link") rest (run r) h in omega (arith, e)
+only_link rest none (list input, h) = let e = first_sign (codes "link") rest (list input) h in omega (arith, e)
+only_link rest none (make m, h) = let e = first_sign (codes "link") rest (make m) h in omega (arith, e)
 
 pub only_run : (rest : List (List ℕ)) → ((r : RunWords) → IsRun (codes "run" ∷ rest) r → ⊥) → IsCommand (codes "run" ∷ rest) → ⊥
-only_run rest none (harden pairs, h) = harden_no_run rest (flat_map names_of pairs) h.words_are
-only_run rest none (link l, h) = link_no_run rest h.rest h.words_are
+only_run rest none (harden pairs, h) = let e = first_sign (codes "run") rest (harden pairs) h in omega (arith, e)
+only_run rest none (link l, h) = let e = first_sign (codes "run") rest (link l) h in omega (arith, e)
 only_run rest none (run r, h) = none r h
-only_run rest none (list input, h) = run_no_list input rest h.words_are
+only_run rest none (list input, h) = let e = first_sign (codes "run") rest (list input) h in omega (arith, e)
+only_run rest none (make m, h) = let e = first_sign (codes "run") rest (make m) h in omega (arith, e)
 
 pub only_list : (rest : List (List ℕ)) → ((input : List ℕ) → IsList (codes "list" ∷ rest) input → ⊥) → IsCommand (codes "list" ∷ rest) → ⊥
-only_list rest none (harden pairs, h) = list_no_harden rest (flat_map names_of pairs) h.words_are
-only_list rest none (link l, h) = list_no_link rest h.rest h.words_are
-only_list rest none (run r, h) = list_no_run rest h.rest h.words_are
+only_list rest none (harden pairs, h) = let e = first_sign (codes "list") rest (harden pairs) h in omega (arith, e)
+only_list rest none (link l, h) = let e = first_sign (codes "list") rest (link l) h in omega (arith, e)
+only_list rest none (run r, h) = let e = first_sign (codes "list") rest (run r) h in omega (arith, e)
 only_list rest none (list input, h) = none input h
+only_list rest none (make m, h) = let e = first_sign (codes "list") rest (make m) h in omega (arith, e)
+
+pub only_make : (rest : List (List ℕ)) → ((m : MakeWords) → IsMake (codes "make" ∷ rest) m → ⊥) → IsCommand (codes "make" ∷ rest) → ⊥
+only_make rest none (harden pairs, h) = let e = first_sign (codes "make") rest (harden pairs) h in omega (arith, e)
+only_make rest none (link l, h) = let e = first_sign (codes "make") rest (link l) h in omega (arith, e)
+only_make rest none (run r, h) = let e = first_sign (codes "make") rest (run r) h in omega (arith, e)
+only_make rest none (list input, h) = let e = first_sign (codes "make") rest (list input) h in omega (arith, e)
+only_make rest none (make m, h) = none m h
 
 -- THE LAW OF `list`: its words name one file.
 pub same_list : (words : List (List ℕ)) (a b : List ℕ) → IsList words a → IsList words b → a ≡ b
@@ -165,6 +123,17 @@ same_list words a b h k = second a b (sym h.words_are ∙ k.words_are)
   where
     second : (x y : List ℕ) → codes "list" ∷ x ∷ [] ≡ codes "list" ∷ y ∷ [] → x ≡ y
     second x y e = cc
+
+-- THE LAW OF `make`: its words say one thing at most.
+pub same_make : (words : List (List ℕ)) (a b : MakeWords) → IsMake words a → IsMake words b → a ≡ b
+same_make words a b h k =
+    let e = sym h.words_are ∙ k.words_are in
+    let seeds : h.seed ≡ k.seed = cc in
+    let counts : h.count ≡ k.count = cc in
+    let f : ℕ → MakeWords = λ x. record { seed = x; count = a.count } in
+    let g : ℕ → MakeWords = λ x. record { seed = b.seed; count = x } in
+    ap f (same_number k.seed a.seed b.seed (subst (λ t. IsNumber t a.seed) seeds h.seed_is) k.seed_is)
+    ∙ ap g (same_number k.count a.count b.count (subst (λ t. IsNumber t a.count) counts h.count_is.number) k.count_is.number)
 
 -- THE LAW OF `link`: its words say one thing at most.
 pub same_link : (words : List (List ℕ)) (a b : LinkWords) → IsLink words a → IsLink words b → a ≡ b

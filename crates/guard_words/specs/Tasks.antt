@@ -7,7 +7,7 @@ use Rattle.guard_words.specs.declared.tasks.Skipped.TheVariants.{Listed, Drawn}
 use Rattle.guard_words.specs.declared.tasks.Task.{Task}
 use Rattle.guard_words.specs.declared.tasks.Task.TheVariants as task
 use Rattle.guard_words.specs.Words.{Pair, LinkWords, RunWords, Skips, listed, drawn}
-use Rattle.guard_words.specs.Meanings.{Meaning, harden, link, run, list}
+use Rattle.guard_words.specs.Meanings.{Meaning, harden, link, run, list, make}
 
 -- an input and its output in turn
 abbrev pub pairs_in : List (List ℕ) → List Pair
@@ -37,3 +37,4 @@ meaning_by (task.Harden names) = harden (pairs_in (map string_bytes names.now))
 meaning_by (task.Link c) = link (link_words c)
 meaning_by (task.Run c) = run (run_words c)
 meaning_by (task.List input) = list input.now
+meaning_by (task.Make seed count) = make (record { seed = seed; count = count })

@@ -164,3 +164,22 @@ pub record IsRun (words : List (List ℕ)) (r : RunWords) : Type 0 where
 pub record IsList (words : List (List ℕ)) (input : List ℕ) : Type 0 where
   pub words_are : words ≡ codes "list" ∷ input ∷ []
   pub name : IsFileName input
+
+-- how many functions `make` may make
+pub record IsCount (text : List ℕ) (n : ℕ) : Type 0 where
+  pub number : IsNumber text n
+  pub some : 1 ≤ n
+  pub few : n ≤ 4000
+
+-- what the words of `make` say
+pub record MakeWords : Type 0 where
+  pub seed : ℕ
+  pub count : ℕ
+
+-- make SEED COUNT
+pub record IsMake (words : List (List ℕ)) (m : MakeWords) : Type 0 where
+  pub seed : List ℕ
+  pub count : List ℕ
+  pub words_are : words ≡ codes "make" ∷ seed ∷ count ∷ []
+  pub seed_is : IsNumber seed m.seed
+  pub count_is : IsCount count m.count

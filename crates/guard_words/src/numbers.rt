@@ -1,7 +1,7 @@
 //! Numbers on a command line.
 
 ghost use Rattle.std.specs.Prelude.{◌≡◌, ◌<◌, ◌≤◌, ◌^◌, ◌++◌, ◌↔◌, ℕ, IsTrue, All, MatchOption, codes};
-ghost use Rattle.guard_words.specs.Words.{IsHexDigit, IsHexadecimal, IsNumber};
+ghost use Rattle.guard_words.specs.Words.{IsCount, IsHexDigit, IsHexadecimal, IsNumber};
 
 use skip_machine::decimal_of;
 
@@ -15,6 +15,16 @@ pub(crate) fn number_of(text: &str) -> Option<u32>
             Some(n) => small(n),
             None => None,
         },
+    }
+}
+
+/// The number from 1 to 4,000 that a text is.
+pub(crate) fn count_of(text: &str) -> Option<u32>
+    ensures { MatchOption result ((n : ℕ) → IsCount text.now n → ⊥) (λ n. IsCount text.now n) }
+{
+    match number_of(text) {
+        Some(n) if 1 <= n && n <= 4000 => Some(n),
+        _ => None,
     }
 }
 

@@ -14,6 +14,8 @@ pub enum Task<'a> {
     Run(RunCommand<'a>),
     /// `list`.
     List { input: &'a str },
+    /// `make`, of 1 to 4,000 functions.
+    Make { seed: u32, count: u32 },
 }
 
 /// What is linked, where it is placed, and the file that takes the image.

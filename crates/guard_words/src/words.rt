@@ -6,6 +6,7 @@ ghost use Rattle.guard_words.specs.Arranged.{IsListed, AreSkippedBy};
 ghost use Rattle.guard_words.specs.Commands.{IsHeadedBy, IsUnderstoodAs};
 
 use crate::file_word::file_word;
+use crate::numbers::{count_of, number_of};
 use crate::options::{are_file_names, arrange};
 use crate::settings::{Schedule, is_placing, placement_of, said_of, schedule_of};
 use crate::tasks::{LinkCommand, RunCommand, Skipped, Task};
@@ -40,6 +41,8 @@ pub fn command_of<'a>(alloc: Global, words: &'a [String]) -> Command<'a>
         run_of(alloc, rest)
     } else if word == "list" {
         list_of(alloc, words)
+    } else if word == "make" {
+        make_of(rest)
     } else {
         Command::Unknown
     }
@@ -150,6 +153,19 @@ fn list_of<'a>(alloc: Global, words: &'a [String]) -> Command<'a>
             ErrorKind::OutOfMemory => Command::NoMemory,
             _ => Command::Unknown,
         },
+    }
+}
+
+/// The command that `make` with these words is.
+fn make_of<'a>(words: &'a [String]) -> Command<'a>
+    ensures { IsUnderstoodAs (codes "make" ∷ map string_bytes words.now) result }
+{
+    let [seed, count] = words else {
+        return Command::Unknown;
+    };
+    match (number_of(seed.as_str()), count_of(count.as_str())) {
+        (Some(seed), Some(count)) => Command::Task(Task::Make { seed, count }),
+        _ => Command::Unknown,
     }
 }
 
