@@ -14,7 +14,7 @@ use bitflags::Flags;
 use elf_model::{Deny, Limit, Object};
 use flow_recover::Flow;
 use liveness::Boundary;
-use pair_parts::made_are_paired;
+use pair_parts::{made_are_paired, made_are_within};
 use seq_core::Layout;
 use sim_relation::Setting;
 use std::alloc::Global;
@@ -56,8 +56,10 @@ fn finished(o: &Object, f: &Flow, l: &Layout, object: Object, s: &Setting) -> Ha
     requires made { IsMade o.now object f.now s.now.copies s.now.results l.now }
     ensures hardened { IsHardening o.now s.now.copies s.now.results result }
     ensures paired { Paired o.now result.object result.factor s.now.copies s.now.results everywhere }
+    ensures within { IsTrue (is_within result.object Limit.ANY) }
 {
     made_are_paired();
+    made_are_within();
     Hardened {
         object,
         factor: factor_of(l),
@@ -79,6 +81,7 @@ pub fn harden(alloc: Global, o: &Object, s: &Setting) -> Result<Hardened, Deny>
     requires results { s.now.results ≡ 4 }
     ensures hardened { IfOk result (λ out. IsHardening o.now s.now.copies s.now.results out) }
     ensures paired { IfOk result (λ out. Paired o.now out.object out.factor s.now.copies s.now.results everywhere) }
+    ensures within { IfOk result (λ out. IsTrue (is_within out.object Limit.ANY)) }
     ensures refused { IfErr result (λ why. IsHardenDenial o.now (boundaries s.now.results) s.now.copies why) }
 {
     o.sound();

@@ -12,3 +12,8 @@ pub mod MadePaired
 pub mod UnitBytes
 pub mod OldStretches
 pub mod Growth
+pub mod CarrierCount
+pub mod RelocCount
+pub mod SymbolCount
+pub mod CodeCount
+pub mod MadeWithin

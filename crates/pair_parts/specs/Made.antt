@@ -1,6 +1,7 @@
--- The law that what is made of an object by way of units and their layout is paired with it.
+-- The laws that what is made of an object by way of units and their layout is paired with it, and is within the limits of
+-- every object.
 use Rattle.std.specs.Prelude.{◌≡◌, ◌⊎◌, ◌≤◌, ℕ, length, Contains, IsTrue}
-use Rattle.elf_model.specs.declared.refusals.TheConstants.Limit.{INPUT}
+use Rattle.elf_model.specs.declared.refusals.TheConstants.Limit.{INPUT, ANY}
 use Rattle.elf_model.specs.Objects.{ObjectParts, is_object, is_within}
 use Rattle.flow_recover.specs.Flows.{FlowParts}
 use Rattle.seq_core.specs.Places.{PlacedParts, LayoutParts}
@@ -40,3 +41,7 @@ pub record AreObjects (o h : ObjectParts) : Type 0 where
 abbrev pub MadeArePaired : Type 0
 MadeArePaired = (o h : ObjectParts) (f : FlowParts) (c K F : ℕ) (l : LayoutParts) → AreObjects o h → Accepted o f K → 2 ≤ c → c ≤ 4 → K ≤ 4 →
     IsMade o h f c K l → IsFactor l F → Paired o h F c K everywhere
+
+abbrev pub MadeAreWithin : Type 0
+MadeAreWithin = (o h : ObjectParts) (f : FlowParts) (c K : ℕ) (l : LayoutParts) → AreObjects o h → Accepted o f K → 2 ≤ c → c ≤ 4 →
+    IsMade o h f c K l → IsTrue (is_within h ANY)

@@ -1,6 +1,6 @@
 //! Laws of hardened objects. The functions do nothing: their contracts are the laws.
 
-ghost use Rattle.pair_parts.specs.Made.{MadeArePaired};
+ghost use Rattle.pair_parts.specs.Made.{MadeArePaired, MadeAreWithin};
 
 use unit_work::units_work;
 
@@ -11,3 +11,8 @@ pub fn made_are_paired()
 {
     units_work();
 }
+
+/// What is made of an object is within the limits of every object.
+pub fn made_are_within()
+    ensures { MadeAreWithin }
+{}

@@ -16,3 +16,8 @@ pub returns-clause-paired : goal.returns-clause-paired
 returns-clause-paired c =
     c.made_are_paired.ensures c.args.o.now c.args.object c.args.f.now c.args.s.now.copies c.args.s.now.results c.factor_of.result c.args.l.now
     (record { plain = c.requires.sound; within = c.requires.within; hard = c.requires.hard }) c.requires.accepted (search rules) (search rules) (search rules) c.requires.made c.factor_of.ensures
+
+pub returns-clause-within : goal.returns-clause-within
+returns-clause-within c =
+    c.made_are_within.ensures c.args.o.now c.args.object c.args.f.now c.args.s.now.copies c.args.s.now.results c.args.l.now
+    (record { plain = c.requires.sound; within = c.requires.within; hard = c.requires.hard }) c.requires.accepted (search rules) (search rules) c.requires.made
