@@ -1,4 +1,4 @@
-//! Files of the rows: those of other tools with other code or another byte.
+//! Files of the rows: those of other tools with other code or other bytes.
 
 use sample_files::{FIVE, PLAIN};
 
@@ -11,11 +11,11 @@ pub(crate) fn of_code(bytes: [u8; 10], size: u8, start: u8) -> [u8; 352] {
     file
 }
 
-/// The plain file with another byte at one place.
-pub(crate) fn plain_with(place: usize, byte: u8) -> [u8; 344] {
+/// The plain file with other bytes from a place on.
+pub(crate) fn plain_with(place: usize, bytes: &[u8]) -> [u8; 344] {
     let mut file = PLAIN;
-    if place < 344 {
-        file[place] = byte;
+    if place <= 344 && bytes.len() <= 344 - place {
+        file[place..place + bytes.len()].copy_from_slice(bytes);
     }
     file
 }

@@ -1,5 +1,5 @@
 use crate::calls::{Answer, Call, answers};
-use crate::files::{plain_with, without_sections};
+use crate::files::without_sections;
 use sample_files::{FIVE, HARDENED, PLAIN, WITH_DEBUG};
 use std::alloc::Global;
 use std::process::Abort;
@@ -51,16 +51,6 @@ fn hardens_files_without_sections(rt: HostRuntime) -> Result<(), Fail> {
 }
 
 #[test]
-fn refuses_files_with_faults(rt: HostRuntime) -> Result<(), Fail> {
-    let other_class = "a.o: refused 2 NotArmRel section 0 offset 4\n";
-    let no_headers = "a.o: refused 3 BadTable section 0 offset 32\n";
-    makes(&rt, rt.alloc(), &[], (1, NOT_ELF, None))?;
-    makes(&rt, rt.alloc(), &PLAIN[..51], (1, NOT_ELF, None))?;
-    makes(&rt, rt.alloc(), &plain_with(4, 2), (1, other_class, None))?;
-    makes(&rt, rt.alloc(), &PLAIN[..80], (1, no_headers, None))
-}
-
-#[test]
 fn refuses_long_files(rt: HostRuntime) -> Result<(), Fail> {
     let too_long = "a.o: refused 31 TooLong section 0 offset 0\n";
     let most = vec![in rt.alloc(); 0u8; 1_048_576]?;
@@ -76,7 +66,8 @@ fn tells_what_failed(rt: HostRuntime) -> Result<(), Fail> {
     let first: &[u64] = &[0];
     let second: &[u64] = &[1];
     let old: Option<&[u8]> = Some(&FIVE);
-    let rows: [(&str, &[u64], &[u64], Answer<'_>); 8] = [
+    let rows: [(&str, &[u64], &[u64], Answer<'_>); 9] = [
+        ("harden", none, first, (2, "", old)),
         ("harden c.o b.o", none, none, (3, "c.o: read fault\n", old)),
         ("harden c.o b.o", none, first, (3, "", old)),
         ("harden a.o b.o", first, none, (3, "a.o: read fault\n", old)),

@@ -116,7 +116,7 @@ fn files(alloc: Global) -> Result<Vec<NamedFile>, AllocError> {
     all.push(named(alloc, "loads.o", &loads)?)?;
     all.push(named(alloc, "lr.o", &address)?)?;
     all.push(named(alloc, "loops.o", &of_code(loop_bytes, 10, 0))?)?;
-    all.push(named(alloc, "g.o", &plain_with(108, b'g'))?)?;
+    all.push(named(alloc, "g.o", &plain_with(108, b"g"))?)?;
     all.push(named(alloc, "short.o", &PLAIN[..51])?)?;
     Ok(all)
 }

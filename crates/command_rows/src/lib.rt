@@ -3,6 +3,8 @@
 #![tactic(auto)]
 
 #[cfg(test)]
+mod broken_rows;
+#[cfg(test)]
 mod calls;
 #[cfg(test)]
 mod files;

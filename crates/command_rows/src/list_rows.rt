@@ -31,13 +31,19 @@ const ROWS: [Row; 3] = [
     ),
 ];
 
-/// What `list a.o` says of a file.
-fn says(rt: &impl Abort, alloc: Global, file: &[u8], status: u8, text: &str) -> Result<(), Fail> {
+/// What `list a.o` says of a file, where these calls on the shelf and on the sink fail.
+fn says(
+    rt: &impl Abort,
+    alloc: Global,
+    file: &[u8],
+    (shelf_fails, sink_fails): (&[u64], &[u64]),
+    (status, text): (u8, &str),
+) -> Result<(), Fail> {
     let call = Call {
         words: "list a.o",
         files: &[("a.o", file)],
-        shelf_fails: &[],
-        sink_fails: &[],
+        shelf_fails,
+        sink_fails,
     };
     answers(rt, alloc, &call, "b.o", (status, text, None))
 }
@@ -45,29 +51,26 @@ fn says(rt: &impl Abort, alloc: Global, file: &[u8], status: u8, text: &str) -> 
 #[test]
 fn lists_code_and_data(rt: HostRuntime) -> Result<(), Fail> {
     for (bytes, size, start, text) in ROWS {
-        says(&rt, rt.alloc(), &of_code(bytes, size, start), 0, text)?;
+        let file = of_code(bytes, size, start);
+        says(&rt, rt.alloc(), &file, (&[], &[]), (0, text))?;
     }
     Ok(())
 }
 
 #[test]
-fn lists_and_refuses_files(rt: HostRuntime) -> Result<(), Fail> {
+fn lists_files_and_tells_what_failed(rt: HostRuntime) -> Result<(), Fail> {
+    let none: &[u64] = &[];
+    let first: &[u64] = &[0];
     let bare = without_sections();
-    let rows: [(&[u8], u8, &str); 3] = [
-        (
-            &PLAIN,
-            0,
-            "section 0 .text\n00000000  movs r0, #5\n00000002  bx lr\n",
-        ),
-        (&bare, 0, ""),
-        (
-            &PLAIN[..51],
-            1,
-            "a.o: refused 1 NotElf section 0 offset 0\n",
-        ),
+    let listing = "section 0 .text\n00000000  movs r0, #5\n00000002  bx lr\n";
+    let rows: [(&[u8], &[u64], &[u64], (u8, &str)); 4] = [
+        (&PLAIN, none, none, (0, listing)),
+        (&bare, none, none, (0, "")),
+        (&PLAIN, first, none, (3, "a.o: read fault\n")),
+        (&PLAIN, none, first, (3, "")),
     ];
-    for (file, status, text) in rows {
-        says(&rt, rt.alloc(), file, status, text)?;
+    for (file, shelf_fails, sink_fails, want) in rows {
+        says(&rt, rt.alloc(), file, (shelf_fails, sink_fails), want)?;
     }
     Ok(())
 }

@@ -2,7 +2,7 @@
 
 use crate::calls::{Answer, Call, answers};
 use hardened_files::{refused, straight};
-use sample_files::{HARDENED, PLAIN};
+use sample_files::{FIVE, HARDENED, PLAIN};
 use std::alloc::Global;
 use std::process::Abort;
 use std::test::Fail;
@@ -23,11 +23,13 @@ fn makes(
     answers(rt, alloc, &call, "b.o", want)
 }
 
+/// The lines of two pairs, the second with the greater factor.
+const RISING: &str =
+    "b.o: 1 functions, 2 -> 4 instructions, 4 -> 8 bytes, 0 dropped, factor 2\nd.o: 1 functions, 2 -> 6 instructions, 4 -> 16 bytes, 0 dropped, factor 4\nfactor 4\n";
+
 /// Each output has its line, and the greatest factor ends the report, whichever pair has it.
 #[test]
 fn hardens_pairs(rt: HostRuntime) -> Result<(), Fail> {
-    let rising =
-        "b.o: 1 functions, 2 -> 4 instructions, 4 -> 8 bytes, 0 dropped, factor 2\nd.o: 1 functions, 2 -> 6 instructions, 4 -> 16 bytes, 0 dropped, factor 4\nfactor 4\n";
     let falling =
         "b.o: 1 functions, 2 -> 6 instructions, 4 -> 16 bytes, 0 dropped, factor 4\nd.o: 1 functions, 2 -> 4 instructions, 4 -> 8 bytes, 0 dropped, factor 2\nfactor 4\n";
     let alloc = rt.alloc();
@@ -35,7 +37,7 @@ fn hardens_pairs(rt: HostRuntime) -> Result<(), Fail> {
         &rt,
         alloc,
         (&PLAIN, &straight::ADDS),
-        (0, rising, Some(&HARDENED)),
+        (0, RISING, Some(&HARDENED)),
     )?;
     makes(
         &rt,
@@ -82,6 +84,45 @@ fn refuses_by_phases(rt: HostRuntime) -> Result<(), Fail> {
     ];
     for (first, second, text) in rows {
         makes(&rt, rt.alloc(), (first, second), (1, text, None))?;
+    }
+    Ok(())
+}
+
+/// What two pairs say where calls fail, and leave in both outputs: a file that could not be saved and those behind it
+/// are as they were, those before it whole.
+#[test]
+fn tells_what_failed(rt: HostRuntime) -> Result<(), Fail> {
+    let none: &[u64] = &[];
+    let put: &[u64] = &[0];
+    let old: &[u8] = &FIVE;
+    let first: &[u8] = &HARDENED;
+    let second: &[u8] = &straight::ADDS_HARDENED;
+    let rows: [(&[u64], &[u64], (u8, &str), (&[u8], &[u8])); 10] = [
+        (none, none, (0, RISING), (first, second)),
+        (&[0], none, (3, "a.o: read fault\n"), (old, old)),
+        (&[0], put, (3, ""), (old, old)),
+        (&[1], none, (3, "c.o: read fault\n"), (old, old)),
+        (&[1], put, (3, ""), (old, old)),
+        (&[2], none, (3, "b.o: write fault\n"), (old, old)),
+        (&[2], put, (3, ""), (old, old)),
+        (&[3], none, (3, "d.o: write fault\n"), (first, old)),
+        (&[3], put, (3, ""), (first, old)),
+        (none, put, (3, ""), (first, second)),
+    ];
+    for (shelf_fails, sink_fails, (status, text), (one, other)) in rows {
+        let call = Call {
+            words: "harden a.o b.o c.o d.o",
+            files: &[
+                ("a.o", &PLAIN),
+                ("b.o", &FIVE),
+                ("c.o", &straight::ADDS),
+                ("d.o", &FIVE),
+            ],
+            shelf_fails,
+            sink_fails,
+        };
+        answers(&rt, rt.alloc(), &call, "b.o", (status, text, Some(one)))?;
+        answers(&rt, rt.alloc(), &call, "d.o", (status, text, Some(other)))?;
     }
     Ok(())
 }
