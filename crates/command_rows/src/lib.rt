@@ -17,6 +17,8 @@ mod image_rows;
 #[cfg(test)]
 mod list_rows;
 #[cfg(test)]
+mod make_rows;
+#[cfg(test)]
 mod pair_rows;
 #[cfg(test)]
 mod relocated_files;

@@ -92,6 +92,15 @@ fn understands_no_other_words(rt: HostRuntime) -> Result<(), Fail> {
         "list a.o b.o",
         "list -h",
         "list ",
+        "make",
+        "make 0",
+        "make 0 0",
+        "make 0 4001",
+        "make 0 1 2",
+        "make 00 1",
+        "make -1 1",
+        "make 0 ",
+        "make 4294967296 1",
     ] {
         says(&rt, rt.alloc(), line, 2, USAGE)?;
     }
