@@ -1,15 +1,15 @@
 -- The code of a generated object's hardened form fits its room: it is one section, of a layout.
-use Rattle.std.proofs.Common.{◌≡◌, ◌≤◌, ◌<◌, inl, inr, ℕ, zero, suc, ◌+◌, ◌∷◌, ◌++◌, [], true, false, Bool, Some, List, length, refl, sym, ap, ◌∙◌, subst, arith, IsTrue}
+use Rattle.std.proofs.Common.{◌≡◌, ◌≤◌, ◌<◌, inl, inr, ℕ, ◌+◌, ◌∷◌, ◌++◌, [], true, false, Bool, Some, List, length, refl, ap, ◌∙◌, arith, IsTrue}
 use Rattle.std.specs.Prelude.{slice_get, slice_index, if◌then◌else◌, max}
 use Rattle.elf_model.specs.Canonical.{round_up}
 use Rattle.std.proofs.lemmas.Bool.{cases_lt, and_from}
-use Rattle.std.proofs.lemmas.Option.{none-some, same_Some}
+use Rattle.std.proofs.lemmas.Option.{same_Some}
 use Rattle.elf_model.specs.declared.objects.Section.{Section}
 use Rattle.elf_model.specs.declared.objects.MapRow.{MapRow}
 use Rattle.elf_model.specs.declared.refusals.Refusal.TheVariants.{CodeTooBig}
 use Rattle.elf_model.specs.Constants.{progbits}
 use Rattle.elf_model.specs.Maps.{map_section}
-use Rattle.elf_model.specs.Objects.{ObjectParts, is_code, is_code_kind, is_object}
+use Rattle.elf_model.specs.Objects.{is_code, is_code_kind, is_object}
 use Rattle.thumb_table.specs.Layouts.{Placed, chosen, code_bytes_of}
 use Rattle.flat_link.specs.Placing.{end_of}
 use Rattle.flat_link.proofs.EndFacts.{code_ends}

@@ -1,5 +1,5 @@
 -- A generated object and its hardened form are lists that are paired one by one.
-use Rattle.std.proofs.Common.{◌≡◌, ◌≤◌, ◌<◌, ℕ, zero, suc, ◌+◌, ◌*◌, ◌∷◌, [], Some, List, length, refl, subst, arith, sym}
+use Rattle.std.proofs.Common.{◌≡◌, ◌≤◌, ℕ, zero, suc, ◌+◌, ◌*◌, ◌∷◌, [], Some, length, refl, subst, arith, sym}
 use Rattle.std.specs.Prelude.{slice_get, false}
 use Rattle.std.proofs.lemmas.Option.{none-some, same_Some}
 use Rattle.elf_model.specs.declared.objects.Section.{Section}

@@ -1,6 +1,6 @@
 -- Images are run with their stack, and the call of a generated object's image returns.
-use Rattle.std.proofs.Common.{◌≡◌, ◌≤◌, ◌<◌, ℕ, ◌+◌, ◌-◌, ◌*◌, ◌∷◌, [], true, false, Bool, List, length, Some, refl, sym, ap, ◌∙◌, subst, arith}
-use Rattle.std.specs.Prelude.{◌||◌, codes, count_by}
+use Rattle.std.proofs.Common.{◌≡◌, ◌≤◌, ℕ, ◌+◌, ◌∷◌, [], true, false, Bool, List, length, refl, sym, ap, ◌∙◌, subst, arith}
+use Rattle.std.specs.Prelude.{◌||◌}
 use Rattle.std.proofs.lemmas.Bool.{eq-eqb}
 use Rattle.std.proofs.lemmas.Option.{same_Some}
 use Rattle.elf_model.specs.Objects.{ObjectParts}
@@ -8,9 +8,9 @@ use Rattle.elf_model.specs.Canonical.{round_up}
 use Rattle.thumb_table.specs.declared.placements.Placement.{Placement}
 use Rattle.thumb_table.specs.Parts.{Image}
 use Rattle.thumb_table.specs.States.{State}
-use Rattle.thumb_table.specs.Schedules.{is_in, Returns, OrdinaryRun}
+use Rattle.thumb_table.specs.Schedules.{is_in, Returns}
 use Rattle.thumb_table.specs.Layouts.{data_bytes_of}
-use Rattle.thumb_table.specs.Images.{IsImage, entry_of}
+use Rattle.thumb_table.specs.Images.{IsImage}
 use Rattle.thumb_table.specs.Calls.{start}
 use Rattle.thumb_table.proofs.PlainImages.{has_room}
 use Rattle.skip_machine.specs.Draws.{IsDrawn}

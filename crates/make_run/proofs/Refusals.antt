@@ -1,5 +1,5 @@
 -- Nothing refuses to harden a generated object, or to link it and its hardened form.
-use Rattle.std.proofs.Common.{◌≡◌, ◌≤◌, ◌<◌, inl, inr, ℕ, ◌+◌, ◌∷◌, [], true, List, length, max, IsTrue, subst, arith}
+use Rattle.std.proofs.Common.{inl, inr, ℕ, ◌∷◌, [], IsTrue, subst, arith}
 use Rattle.elf_model.specs.declared.refusals.Spot.{Spot}
 use Rattle.elf_model.specs.Objects.{ObjectParts, is_object}
 use Rattle.thumb_table.specs.Parts.{Image}

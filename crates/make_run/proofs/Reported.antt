@@ -1,14 +1,13 @@
 -- From what is made of a seed and its two runs to what is said of it.
-use Rattle.std.proofs.Common.{◌≡◌, ◌≤◌, ◌<◌, ◌^◌, ℕ, ◌*◌, ◌∷◌, [], false, List, length, Some, refl, sym, ap, ◌∙◌, subst, arith}
-use Rattle.std.specs.Prelude.{All, codes, slice_get}
+use Rattle.std.proofs.Common.{◌≡◌, ◌<◌, ◌^◌, ℕ, ◌*◌, ◌∷◌, [], false, List, length, Some, refl, sym, ap, ◌∙◌, subst, arith}
+use Rattle.std.specs.Prelude.{codes, slice_get}
 use Rattle.std.proofs.lemmas.List.Elements.{All-nil, All-cons}
 use Rattle.std.proofs.lemmas.Option.{same_Some}
 use Rattle.elf_model.specs.declared.objects.MapRow.{MapRow}
 use Rattle.elf_model.specs.Maps.{HasMap}
 use Rattle.elf_model.specs.Objects.{ObjectParts, code_size}
-use Rattle.thumb_table.specs.Parts.{Image}
 use Rattle.thumb_table.specs.States.{State, read}
-use Rattle.thumb_table.specs.Schedules.{is_in, IsLegal, Returns, ReturnsWithin, OrdinaryRun}
+use Rattle.thumb_table.specs.Schedules.{is_in, IsLegal, Returns, OrdinaryRun}
 use Rattle.thumb_table.specs.Images.{IsImage, entry_of}
 use Rattle.thumb_table.specs.Calls.{start}
 use Rattle.skip_machine.specs.Draws.{IsDrawn}
@@ -16,14 +15,12 @@ use Rattle.skip_machine.specs.Machines.{Machine, state}
 use Rattle.sim_relation.specs.AddressMaps.{SameState}
 use Rattle.sim_relation.specs.Hardened.{AreArguments, EndsAlike, Hardened as AreHardened}
 use Rattle.harden_core.specs.Hardening.{IsHardening}
-use Rattle.gen_object.specs.Generated.{generated}
 use Rattle.gen_image.specs.GeneratedImages.{placement}
 use Rattle.gen_runs.specs.GeneratedRuns.{steps_of}
 use Rattle.make_run.specs.declared.making.Made.{Made}
-use Rattle.make_run.specs.declared.lines.Tally.{Tally}
 use Rattle.make_run.specs.MakeTexts.{MakeTally, make_report}
-use Rattle.make_run.specs.Making.{CallsFirst, IsMade, skipped_of}
-use Rattle.make_run.specs.MakeSteps.{IsAllMade, IsBegun, CanReturn, HasReturned, HasReturnedPlainly, tally_of}
+use Rattle.make_run.specs.Making.{IsMade, skipped_of}
+use Rattle.make_run.specs.MakeSteps.{IsAllMade, CanReturn, HasReturned, HasReturnedPlainly}
 use Rattle.make_run.proofs.CallEnds.{one_end}
 
 only_one : (maps : List (List MapRow)) → length maps ≡ 1 → (rows : List MapRow) × (maps ≡ rows ∷ [])

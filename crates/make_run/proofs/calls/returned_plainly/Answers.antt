@@ -1,7 +1,6 @@
-use Rattle.std.proofs.Common.{◌∷◌, [], ℕ, sym, subst, arith}
+use Rattle.std.proofs.Common.{◌∷◌, []}
 use Rattle.std.proofs.lemmas.Result.{IfOk-weaker}
 use Rattle.gen_object.specs.Generated.{generated}
-use Rattle.gen_flow.specs.GeneratedCode.{IsCount}
 use Rattle.gen_image.specs.GeneratedImages.{placement}
 use Rattle.make_run.proofs.PlainCalls.{can_run, can_return, has_returned}
 use Rattle.make_run.proofs.calls.returned_plainly.Goals as goal
