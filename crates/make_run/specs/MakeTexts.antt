@@ -1,6 +1,7 @@
 -- What `make` prints: five lines.
-use Rattle.std.specs.Prelude.{ℕ, ◌-◌, Bool, true, false, List, [], ◌∷◌, ◌++◌, length, codes, replicate}
-use Rattle.std.specs.Fmt.{decimal, digits}
+use Rattle.std.specs.Prelude.{ℕ, List, ◌++◌, codes}
+use Rattle.std.specs.Fmt.{decimal}
+use Rattle.make_run.specs.Lines.{line, word_text}
 
 -- the numbers in these lines
 pub record MakeTally : Type 0 where
@@ -13,13 +14,6 @@ pub record MakeTally : Type 0 where
   pub hard_steps : ℕ
   pub skips : ℕ
   pub hard_r0 : ℕ
-
-abbrev pub line : List ℕ → List ℕ
-line text = text ++ 10 ∷ []
-
--- a word, in eight lower-case hexadecimal digits
-abbrev pub word_text : ℕ → List ℕ
-word_text n = codes "0x" ++ replicate (8 - length (digits 16 false n)) 48 ++ digits 16 false n
 
 abbrev pub made_line : MakeTally → List ℕ
 made_line t = line (codes "made " ++ decimal t.functions ++ codes " functions, " ++ decimal t.old_bytes ++ codes " bytes of code")

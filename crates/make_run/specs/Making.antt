@@ -16,7 +16,7 @@ use Rattle.harden_core.specs.Hardening.{IsHardening}
 use Rattle.gen_object.specs.Generated.{generated}
 use Rattle.gen_image.specs.GeneratedImages.{placement}
 use Rattle.gen_runs.specs.GeneratedRuns.{steps_of}
-use Rattle.make_run.specs.MakeTexts.{MakeTally, make_report}
+use Rattle.make_run.specs.MakeTexts.{make_report}
 
 -- The call of f0 with 3 in r0, of the image of one object.
 pub record CallsFirst (o : ObjectParts) (image : Image) (s : State) : Type 0 where

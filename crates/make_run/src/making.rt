@@ -1,9 +1,24 @@
 //! From a seed to the report on two runs.
 
-ghost use Rattle.std.specs.Prelude.{◌≤◌, IfOk, string_bytes};
+ghost use Rattle.std.specs.Prelude.{◌≡◌, ◌≤◌, ◌^◌, [], ◌∷◌, length, IfOk, IsTrue, string_bytes};
+ghost use Rattle.elf_model.specs.Objects.{code_size, is_within};
+ghost use Rattle.thumb_table.specs.Images.{IsImage};
+ghost use Rattle.thumb_table.specs.States.{read};
+ghost use Rattle.skip_machine.specs.Machines.{state};
+ghost use Rattle.gen_object.specs.Generated.{generated};
+ghost use Rattle.gen_image.specs.GeneratedImages.{placement};
 ghost use Rattle.make_run.specs.Making.{IsMade};
+ghost use Rattle.make_run.specs.MakeSteps.{IsAllMade};
 
+use crate::calls::{returned, returned_plainly, skips_of};
+use crate::lines::{Tally, report_text};
+use crate::phases::{hard_image, hardened_of, is_hardened, plain_image};
+use elf_model::{Limit, Object, Section, is_code};
+use gen_object::generated;
+use harden_core::Hardened;
+use skip_machine::{Machine, Plan};
 use std::alloc::{AllocError, Global};
+use thumb_table::Image;
 
 /// Makes the object of `count` functions from a seed, hardens it, runs it as it is and its hardened form under drawn
 /// skips, and says in five lines what came of it.
@@ -16,5 +31,73 @@ pub fn make(alloc: Global, seed: u32, count: u32) -> Result<String, AllocError>
     requires high { count ≤ 4000 }
     ensures { IfOk result (λ text. IsMade seed count (string_bytes text)) }
 {
-    Err(AllocError)
+    let object = generated(alloc, seed, count)?;
+    let hardened = hardened_of(alloc, &object)?;
+    let plain = plain_image(alloc, &object)?;
+    let hard = hard_image(alloc, &object, &hardened, &plain)?;
+    let made = Made {
+        seed,
+        count,
+        object,
+        hardened,
+        plain,
+        hard,
+    };
+    report_on(alloc, &made)
+}
+
+/// A generated object and its hardened form, with the image of each.
+#[derive(Drop)]
+struct Made {
+    seed: u32,
+    count: u32,
+    object: Object,
+    hardened: Hardened,
+    plain: Image,
+    hard: Image,
+}
+
+/// The report on the runs of both.
+fn report_on(alloc: Global, made: &Made) -> Result<String, AllocError>
+    requires { IsAllMade made.now }
+    ensures { IfOk result (λ text. IsMade made.now.seed made.now.count (string_bytes text)) }
+{
+    let plain = returned_plainly(alloc, &made.plain, made.count)?;
+    is_hardened(&made.object, &made.hardened);
+    let most = made.hardened.factor as u64 * plain.steps();
+    let plan = Plan::drawn(alloc, made.seed, most, 2)?;
+    let hard = returned(alloc, &made.hard, most, &plan)?;
+    let tally = Tally {
+        functions: made.count,
+        old_bytes: code_bytes_of(made.object.sections()),
+        new_bytes: code_bytes_of(made.hardened.object.sections()),
+        factor: made.hardened.factor,
+        steps: plain.steps(),
+        r0: r0_of(&plain),
+        hard_steps: hard.steps(),
+        skips: skips_of(&plan, hard.steps()),
+        hard_r0: r0_of(&hard),
+    };
+    report_text(alloc, &tally)
+}
+
+/// How many bytes the sections of code have.
+fn code_bytes_of(sections: &[Section]) -> u64
+    requires { length sections.now ≤ 1024 }
+    ensures { result ≡ code_size sections.now }
+{
+    let mut sum = 0;
+    for section in sections {
+        if is_code(section) {
+            sum += section.size as u64;
+        }
+    }
+    sum
+}
+
+/// The number in r0.
+fn r0_of(machine: &Machine) -> u32
+    ensures { result ≡ (read (state machine.now).core 0).bits }
+{
+    machine.registers().r[0].bits()
 }
