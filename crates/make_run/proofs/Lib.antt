@@ -1,4 +1,5 @@
 pub mod CallEnds
+pub mod Compared
 pub mod HardCode
 pub mod LineParts
 pub mod PairedOne

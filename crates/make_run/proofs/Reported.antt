@@ -20,7 +20,7 @@ use Rattle.gen_runs.specs.GeneratedRuns.{steps_of}
 use Rattle.make_run.specs.declared.making.Made.{Made}
 use Rattle.make_run.specs.MakeTexts.{MakeTally, make_report}
 use Rattle.make_run.specs.Making.{IsMade, skipped_of}
-use Rattle.make_run.specs.MakeSteps.{IsAllMade, CanReturn, HasReturned, HasReturnedPlainly}
+use Rattle.make_run.specs.MakeSteps.{IsAllMade, EndAlike, CanReturn, HasReturned, HasReturnedPlainly}
 use Rattle.make_run.proofs.CallEnds.{one_end}
 
 only_one : (maps : List (List MapRow)) → length maps ≡ 1 → (rows : List MapRow) × (maps ≡ rows ∷ [])
@@ -69,6 +69,9 @@ module _ (m : Made) (is : IsAllMade m) (promised : AreHardened (m.object ∷ [])
         let one : ends.0 ≡ state q = one_end m.hard.code (is_in schedule) ends.1.steps q.steps (start m.hard 65536 alike.0 (3 ∷ [])) ends.0 (state q) ends.1.returns returns in
         subst (λ (maps : List (List MapRow)). SameState m.plain m.hard maps 4 (state p) (state q)) maps_are.1
         (subst (λ (s : State). SameState m.plain m.hard promised.maps 4 (state p) s) one ends.2)
+
+    pub end_alike : EndAlike m p q
+    end_alike = record { rows = maps_are.0; has_map = has_map; same = ended_same }
 
     -- what is counted of both
     abbrev numbers : ObjectParts → MakeTally

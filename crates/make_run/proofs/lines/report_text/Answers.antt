@@ -9,5 +9,5 @@ pub returns : goal.returns
 returns c =
     let t = tally_of c.args.t.now in
     IfOk-weaker c.format.result _ _
-    (λ x h. (simp (c.in_ok-made.ensures, c.in_ok-hardened.ensures, c.in_ok-plain.ensures, c.in_ok-hard.ensures) at h) ∙ report_parts (made_line t) (hardened_line t) (plain_run_line t) (hardened_run_line t))
+    (λ x h. (simp (c.in_ok-made.ensures, c.in_ok-hardened.ensures, c.in_ok-plain.ensures, c.in_ok-hard.ensures, c.requires) at h) ∙ report_parts (made_line t) (hardened_line t) (plain_run_line t) (hardened_run_line t))
     c.format.ensures.ok

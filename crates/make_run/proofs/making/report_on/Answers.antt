@@ -11,7 +11,7 @@ use Rattle.make_run.specs.Making.{skipped_of}
 use Rattle.make_run.specs.MakeTexts.{make_report}
 use Rattle.make_run.specs.MakeSteps.{HasReturned}
 use Rattle.make_run.proofs.PlainCalls.{can_run}
-use Rattle.make_run.proofs.Reported.{hard_can_return, is_made, same_numbers}
+use Rattle.make_run.proofs.Reported.{end_alike, hard_can_return, is_made, same_numbers}
 use Rattle.make_run.proofs.making.report_on.Goals as goal
 
 pub returned-requires-clause-run : goal.returned-requires-clause-run
@@ -21,6 +21,16 @@ pub returned-requires-clause-returns : goal.returned-requires-clause-returns
 returned-requires-clause-returns c =
     hard_can_return c.args.made.now c.requires c.is_hardened.ensures c.in_ok-plain.plain c.in_ok-plain.ensures c.in_ok-plan.plan c.steps.result
     (c.steps.ensures ∙ c.in_ok-plain.ensures.steps) c.in_ok-plan.ensures.legal
+
+pub same_text-requires-clause-alike : goal.same_text-requires-clause-alike
+same_text-requires-clause-alike c =
+    let m = c.args.made.now in
+    let p = c.in_ok-plain.plain in
+    let q = c.in_ok-hard.hard in
+    let plan = c.in_ok-plan.plan in
+    let count : c.steps.result ≡ steps_of m.count = c.steps.ensures ∙ c.in_ok-plain.ensures.steps in
+    let ran = subst (λ (n : ℕ). HasReturned m.hard plan (m.hardened.factor * n) q) count c.in_ok-hard.ensures in
+    end_alike m c.requires c.is_hardened.ensures p c.in_ok-plain.ensures q plan c.in_ok-plan.ensures.legal ran
 
 pub returns : goal.returns
 returns c =
