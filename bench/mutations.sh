@@ -4,7 +4,7 @@
 #
 #   bench/mutations.sh [COUNT [SEED]]
 #
-# COUNT is 2000 if it is left out; 100000 takes about an hour of a processor. The same seed gives the same changes.
+# COUNT is 2000 if it is left out; 100000 takes some six minutes of a processor. The same seed gives the same changes.
 # SKIPGUARD=COMMAND takes the place of the program that is built from this repository. The status is 0 only where no run
 # was ended by a signal or by the clock, each ended with a status and a text that docs/REFUSALS.md has for it, and readelf
 # complains of no hardened file unless it complains of the input too. Files that break this stay in the folder that is
