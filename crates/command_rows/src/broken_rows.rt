@@ -55,7 +55,8 @@ const UNHARDENABLE: [(Change, &str); 5] = [
 fn says(
     rt: &impl Abort,
     alloc: Global,
-    (words, file): (&str, &[u8]),
+    words: &str,
+    file: &[u8],
     sink_fails: &[u64],
     (status, text): (u8, &str),
 ) -> Result<(), Fail> {
@@ -68,27 +69,28 @@ fn says(
     answers(rt, alloc, &call, "b.o", (status, text, Some(&FIVE)))
 }
 
-/// A file is refused so, also where the line can't be put.
+/// A file is refused with this line, also where it can't be put.
 fn refuses(
     rt: &impl Abort,
     alloc: Global,
-    (words, file): (&str, &[u8]),
-    refusal: &str,
+    words: &str,
+    file: &[u8],
+    line: &str,
 ) -> Result<(), Fail> {
-    let text = format!(in alloc; "a.o: refused {refusal}\n")?;
-    says(rt, alloc, (words, file), &[], (1, &text))?;
-    says(rt, alloc, (words, file), &[0], (1, ""))
+    says(rt, alloc, words, file, &[], (1, line))?;
+    says(rt, alloc, words, file, &[0], (1, ""))
 }
 
 /// No command takes a file.
 fn all_refuse(rt: &impl Abort, alloc: Global, file: &[u8], refusal: &str) -> Result<(), Fail> {
+    let line = format!(in alloc; "a.o: refused {refusal}\n")?;
     for words in [
         "harden a.o b.o",
         "list a.o",
         "link --base 0x8000 --room 64 b.o a.o",
         "run --base 0x8000 --room 64 --entry f --steps 10 a.o",
     ] {
-        refuses(rt, alloc, (words, file), refusal)?;
+        refuses(rt, alloc, words, file, &line)?;
     }
     Ok(())
 }
@@ -109,9 +111,10 @@ fn refuses_broken_files(rt: HostRuntime) -> Result<(), Fail> {
 fn refuses_to_harden_broken_code(rt: HostRuntime) -> Result<(), Fail> {
     for ((place, bytes, refusal), lines) in UNHARDENABLE {
         let file = plain_with(place, bytes);
-        refuses(&rt, rt.alloc(), ("harden a.o b.o", &file), refusal)?;
+        let line = format!(in rt.alloc(); "a.o: refused {refusal}\n")?;
+        refuses(&rt, rt.alloc(), "harden a.o b.o", &file, &line)?;
         let text = format!(in rt.alloc(); "section 0 .text\n{lines}")?;
-        says(&rt, rt.alloc(), ("list a.o", &file), &[], (0, &text))?;
+        says(&rt, rt.alloc(), "list a.o", &file, &[], (0, &text))?;
     }
     Ok(())
 }
