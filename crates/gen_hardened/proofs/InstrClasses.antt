@@ -1,5 +1,5 @@
 -- The classes of the instructions that may be drawn.
-use Rattle.std.proofs.Common.{◌≡◌, ◌<◌, ℕ, Bool, true, false, List, [], ◌∷◌, refl, ap, ◌∙◌, inl}
+use Rattle.std.proofs.Common.{◌≡◌, ◌<◌, ℕ, Bool, true, false, [], ◌∷◌, refl, ap, ◌∙◌, inl}
 use Rattle.std.specs.Prelude.{◌==◌, ◌&&◌, ◌||◌, get_or}
 use Rattle.std.proofs.lemmas.Bool.{both_ways, eqb-true}
 use Rattle.thumb_instr.specs.declared.instructions.Instr.TheVariants as instr

@@ -3,7 +3,6 @@ use Rattle.std.proofs.Common.{◌≡◌, ◌⊎◌, ◌<◌, ℕ, ◌+◌, ◌*�
 use Rattle.std.specs.Prelude.{slice_get, ◌==◌, ◌&&◌, ◌||◌, not}
 use Rattle.std.proofs.lemmas.Bool.{both_ways, eqb-true}
 use Rattle.std.proofs.lemmas.Option.{same_Some}
-use Rattle.elf_model.specs.declared.refusals.Refusal.{Refusal}
 use Rattle.thumb_instr.specs.declared.conditions.Cond.{Cond}
 use Rattle.thumb_instr.specs.declared.conditions.Cond.TheVariants.{Al}
 use Rattle.thumb_instr.specs.declared.instructions.Instr.{Instr}
@@ -23,7 +22,7 @@ use Rattle.liveness.specs.Faults.LiveFault.{at_entry, at_return}
 use Rattle.liveness.proofs.PathFacts.{or_cases, or_left, or_right}
 use Rattle.sim_relation.specs.Accepted.{boundaries}
 use Rattle.gen_object.specs.Generated.{generated}
-use Rattle.gen_flow.specs.GeneratedCode.{pushes, returns, calls, IsCount, StandsAt}
+use Rattle.gen_flow.specs.GeneratedCode.{returns, IsCount, StandsAt}
 use Rattle.gen_flow.specs.GeneratedCode.StandsAt.{first, work, next, back, last}
 use Rattle.gen_flow.specs.GeneratedFlow.{GeneratedPointsAreKnown}
 use Rattle.gen_hardened.specs.GeneratedHardening.{GeneratedFlowsAreLive}

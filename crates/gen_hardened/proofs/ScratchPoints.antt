@@ -1,10 +1,9 @@
 -- Each point of a generated object has the scratch registers that it needs.
-use Rattle.std.proofs.Common.{lit≤, ◌≡◌, ◌⊎◌, ◌<◌, ◌≤◌, ℕ, ◌+◌, ◌*◌, Bool, true, false, cond, List, [], ◌∷◌, length, filter, refl, sym, ap, ◌∙◌, subst, inl, inr, arith, Some}
-use Rattle.std.specs.Prelude.{slice_get, Contains, ◌==◌, ◌&&◌, ◌||◌, not}
+use Rattle.std.proofs.Common.{lit≤, ◌≡◌, ◌<◌, ◌≤◌, ℕ, Bool, true, false, cond, List, [], ◌∷◌, length, filter, refl, sym, ap, ◌∙◌, subst, inl, inr, arith, Some}
+use Rattle.std.specs.Prelude.{slice_get, ◌&&◌, ◌||◌, not}
 use Rattle.std.proofs.lemmas.Bool.{both_ways}
 use Rattle.elf_model.proofs.Elements.{place_of}
 use Rattle.elf_model.specs.declared.refusals.Refusal.{Refusal}
-use Rattle.elf_model.specs.declared.refusals.Spot.{Spot}
 use Rattle.thumb_instr.specs.declared.instructions.Instr.{Instr}
 use Rattle.thumb_instr.specs.Operands.{has}
 use Rattle.thumb_instr.specs.Sets.{reads_of, writes_of}
@@ -21,10 +20,10 @@ use Rattle.seq_core.specs.Classes.{IsOf}
 use Rattle.seq_core.specs.Needs.{registers_of, changes_flags}
 use Rattle.seq_core.proofs.ClassesApart.{one_class}
 use Rattle.sim_relation.specs.Accepted.{boundaries}
-use Rattle.point_units.specs.Scratch.{order, is_scratch, scratch_of, has_live_flag, Lacks, ScratchFault}
+use Rattle.point_units.specs.Scratch.{is_scratch, scratch_of, has_live_flag, Lacks, ScratchFault}
 use Rattle.point_units.specs.Scratch.ScratchFault.{at_point}
 use Rattle.gen_object.specs.Generated.{generated}
-use Rattle.gen_flow.specs.GeneratedCode.{pushes, returns, calls, IsCount, StandsAt}
+use Rattle.gen_flow.specs.GeneratedCode.{IsCount, StandsAt}
 use Rattle.gen_flow.specs.GeneratedFlow.{GeneratedPointsAreKnown}
 use Rattle.gen_hardened.specs.GeneratedHardening.{GeneratedPointsHaveScratch}
 use Rattle.gen_hardened.proofs.KnownInstrs.{worked_at, each_of_eight, of_known}
