@@ -11,6 +11,10 @@ ghost use Rattle.make_run.specs.MakeSteps.{IsGenerated, IsMadeOf};
 
 use elf_model::{Deny, Limit, Object};
 use flat_link::link;
+use gen_flow::generated_flows_are_recovered;
+use gen_hardened::{
+    generated_flows_are_live, generated_points_have_scratch, generated_units_are_laid,
+};
 use gen_image::generated_objects_are_linked;
 use harden_core::{Hardened, Setting, harden};
 use sim_objects::laws::paired_list_hardens;
@@ -30,17 +34,20 @@ pub(crate) const PLACEMENT: Placement = Placement {
     stack: 65_536,
 };
 
-/// The hardened form of a generated object. Its flow, liveness and scratch registers refuse none, by the laws of
-/// `gen_flow` and `gen_hardened`. Were a layout refused, which is not shown to be impossible, memory would be said to be
-/// wanting.
+/// The hardened form of a generated object, which nothing refuses.
 pub(crate) fn hardened_of(alloc: Global, o: &Object) -> Result<Hardened, AllocError>
     requires generated { IsGenerated o.now }
     requires within { IsTrue (is_within o.now Limit.INPUT) }
     ensures { IfOk result (IsMadeOf o.now) }
 {
+    generated_flows_are_recovered();
+    generated_flows_are_live();
+    generated_points_have_scratch();
+    generated_units_are_laid();
     match harden(alloc, o, &SETTING) {
         Ok(hardened) => Ok(hardened),
-        Err(_) => Err(AllocError),
+        Err(Deny::NoMemory) => Err(AllocError),
+        Err(Deny::Refused(_)) => unreachable!(),
     }
 }
 
