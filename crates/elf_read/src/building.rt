@@ -1,7 +1,9 @@
 //! The parts of the object that a file stands for.
 
-ghost use Rattle.std.specs.Prelude.{◌≡◌, ◌≢◌, ◌<◌, ◌≤◌, ◌^◌, ◌+◌, ◌-◌, ◌*◌, ◌/◌, ◌%◌, ◌++◌, ◌==◌, filter, [], ◌∷◌, ℕ, true, length, map, slice_index, IfOk, OnOk, Some, if◌then◌else◌, IsPermutation};
+ghost use Rattle.std.specs.Prelude.{◌≡◌, ◌≢◌, ◌<◌, ◌≤◌, ◌^◌, ◌+◌, ◌-◌, ◌*◌, ◌/◌, ◌%◌, ◌++◌, ◌==◌, drop, filter, [], ◌∷◌, ℕ, true, length, map, slice_index, IfOk, OnOk, Some, if◌then◌else◌, IsPermutation};
+ghost use Rattle.std.specs.List.{before_first};
 ghost use Rattle.std.specs.List.Sorted.{IsSortedByKey};
+ghost use Rattle.std.specs.Rc.{rc_slice_items};
 ghost use Rattle.elf_model.specs.Constants.{nobits};
 ghost use Rattle.elf_model.specs.Fields.{half_at, word_at};
 ghost use Rattle.elf_model.specs.Files.{from, header, header_count, entries_of, is_kept, is_kept_symbol, section_of, kept_headers, symbol_table, symbol_of, kept_symbols, home_of, contents, reloc_of, reloc_entries};
@@ -11,18 +13,33 @@ ghost use Rattle.elf_read.specs.Keeping.{kept_flags, symbol_flags, AreCounts, Ha
 ghost use Rattle.elf_read.specs.RelocFaults.{pair_cmp};
 
 use crate::headers::{count, half, header_at, word};
-use crate::keeping::{is_kept_symbol, kept_at, section_name, text_at};
+use crate::keeping::{is_kept_symbol, kept_at, until_nul};
 use crate::limits::is_kept_relocs;
 use crate::names::symtab_of;
 use crate::strings::contents;
 use elf_model::numbers::{ABSOLUTE_INDEX, NOBITS, UNDEFINED_INDEX};
 use elf_model::{Bytes, Home, Name, Reloc, RelocKind, Section, Symbol};
 use std::alloc::{AllocError, Global};
+use std::rc::RcSlice;
 
-fn name_of(alloc: Global, text: &[u8]) -> Result<Name, AllocError>
-    ensures { IfOk result (λ n. n ≡ text.now) }
+/// The bytes of a string table, for all names that it has.
+fn texts_of(alloc: Global, bytes: &[u8], table: usize) -> Result<RcSlice<u8>, AllocError>
+    requires tabled { IsTabled bytes.now }
+    requires listed { IsHeader bytes.now table }
+    requires stored { (header bytes.now table).kind ≢ nobits }
+    ensures { IfOk result (λ texts. rc_slice_items texts ≡ contents bytes.now table) }
 {
-    Ok(Name::new(Vec::from_slice(alloc, text)?))
+    RcSlice::from_slice(alloc, contents(bytes, table))
+}
+
+/// The name at an offset of a string table.
+fn name_at(texts: &RcSlice<u8>, at: usize) -> Result<Name, AllocError>
+    ensures { IfOk result (λ n. n ≡ before_first (λ c. c == 0) (drop at (rc_slice_items texts.now))) }
+{
+    let table = texts.as_slice();
+    let start = at.min(table.len());
+    let text = until_nul(&table[start..]);
+    Name::of_table(texts, start, start + text.len())
 }
 
 /// The bytes that a section has in the file.
@@ -37,13 +54,19 @@ fn stored(bytes: &[u8], h: usize) -> &[u8]
     contents(bytes, h)
 }
 
-fn section_at(alloc: Global, bytes: &[u8], h: usize) -> Result<Section, AllocError>
+fn section_at(
+    alloc: Global,
+    bytes: &[u8],
+    texts: &RcSlice<u8>,
+    h: usize,
+) -> Result<Section, AllocError>
     requires tabled { IsTabled bytes.now }
     requires listed { IsHeader bytes.now h }
+    requires texts { rc_slice_items texts.now ≡ contents bytes.now (half_at bytes.now 50) }
     ensures { IfOk result (λ s. s ≡ section_of bytes.now h) }
 {
     let header = header_at(bytes, h);
-    let name = name_of(alloc, section_name(bytes, h))?;
+    let name = name_at(texts, header.name as usize)?;
     let stored = Vec::from_slice(alloc, stored(bytes, h))?;
     Ok(Section {
         name,
@@ -59,6 +82,7 @@ fn section_at(alloc: Global, bytes: &[u8], h: usize) -> Result<Section, AllocErr
 fn push_section(
     alloc: Global,
     bytes: &[u8],
+    texts: &RcSlice<u8>,
     kept: &[bool],
     h: usize,
     sections: &mut Vec<Section>,
@@ -66,12 +90,13 @@ fn push_section(
     requires tabled { IsTabled bytes.now }
     requires kept { kept.now ≡ kept_flags bytes.now }
     requires listed { IsHeader bytes.now h }
+    requires texts { rc_slice_items texts.now ≡ contents bytes.now (half_at bytes.now 50) }
     ensures { OnOk result (sections.new.items ≡ sections.old.items ++ (if is_kept bytes.now h then section_of bytes.now h ∷ [] else [])) }
 {
     if !kept_at(bytes, kept, h) {
         return Ok(());
     }
-    sections.push(section_at(alloc, bytes, h)?)?;
+    sections.push(section_at(alloc, bytes, texts, h)?)?;
     Ok(())
 }
 
@@ -86,8 +111,12 @@ pub(crate) fn sections(
     ensures { IfOk result (λ v. v.items ≡ map (section_of bytes.now) (kept_headers bytes.now)) }
 {
     let mut sections = Vec::new(alloc);
+    if count(bytes) == 0 {
+        return Ok(sections);
+    }
+    let texts = texts_of(alloc, bytes, half(bytes, 50) as usize)?;
     for h in 1..count(bytes) {
-        push_section(alloc, bytes, kept, h, &mut sections)?;
+        push_section(alloc, bytes, &texts, kept, h, &mut sections)?;
     }
     Ok(sections)
 }
@@ -117,23 +146,22 @@ fn home_of(bytes: &[u8], e: usize, numbers: &[u32]) -> Home
 }
 
 fn symbol_at(
-    alloc: Global,
     bytes: &[u8],
+    texts: &RcSlice<u8>,
     t: usize,
     e: usize,
     numbers: &[u32],
 ) -> Result<Symbol, AllocError>
     requires tabled { IsTabled bytes.now }
     requires table { symbol_table bytes.now ≡ Some t }
+    requires texts { rc_slice_items texts.now ≡ contents bytes.now (header bytes.now t).link }
     requires inside { e + 16 ≤ length bytes.now }
     requires stays { is_kept_symbol bytes.now e ≡ true }
     requires numbers { AreCounts (kept_flags bytes.now) numbers.now }
     ensures { IfOk result (λ s. s ≡ symbol_of bytes.now e) }
 {
-    let link = header_at(bytes, t).link as usize;
-    let name = name_of(alloc, text_at(bytes, link, word(bytes, e) as usize))?;
     Ok(Symbol {
-        name,
+        name: name_at(texts, word(bytes, e) as usize)?,
         value: word(bytes, e + 4),
         size: word(bytes, e + 8),
         bind: bytes[e + 12] / 16,
@@ -144,8 +172,8 @@ fn symbol_at(
 }
 
 fn push_symbol(
-    alloc: Global,
     bytes: &[u8],
+    texts: &RcSlice<u8>,
     t: usize,
     e: usize,
     kept: &[bool],
@@ -154,6 +182,7 @@ fn push_symbol(
 ) -> Result<(), AllocError>
     requires tabled { IsTabled bytes.now }
     requires table { symbol_table bytes.now ≡ Some t }
+    requires texts { rc_slice_items texts.now ≡ contents bytes.now (header bytes.now t).link }
     requires inside { e + 16 ≤ length bytes.now }
     requires kept { kept.now ≡ kept_flags bytes.now }
     requires numbers { AreCounts (kept_flags bytes.now) numbers.now }
@@ -162,13 +191,13 @@ fn push_symbol(
     if !is_kept_symbol(bytes, kept, e) {
         return Ok(());
     }
-    symbols.push(symbol_at(alloc, bytes, t, e, numbers)?)?;
+    symbols.push(symbol_at(bytes, texts, t, e, numbers)?)?;
     Ok(())
 }
 
 fn push_symbols(
-    alloc: Global,
     bytes: &[u8],
+    texts: &RcSlice<u8>,
     t: usize,
     table: usize,
     n: usize,
@@ -178,13 +207,14 @@ fn push_symbols(
 ) -> Result<(), AllocError>
     requires tabled { IsTabled bytes.now }
     requires table { symbol_table bytes.now ≡ Some t }
+    requires texts { rc_slice_items texts.now ≡ contents bytes.now (header bytes.now t).link }
     requires inside { table + 16 * n ≤ length bytes.now }
     requires kept { kept.now ≡ kept_flags bytes.now }
     requires numbers { AreCounts (kept_flags bytes.now) numbers.now }
     ensures { OnOk result (symbols.new.items ≡ symbols.old.items ++ map (symbol_of bytes.now) (filter (is_kept_symbol bytes.now) (map (λ k. table + 16 * k) (from 1 (n - 1))))) }
 {
     for k in 1..n {
-        push_symbol(alloc, bytes, t, table + 16 * k, kept, numbers, symbols)?;
+        push_symbol(bytes, texts, t, table + 16 * k, kept, numbers, symbols)?;
     }
     Ok(())
 }
@@ -207,9 +237,10 @@ pub(crate) fn symbols(
     };
     let header = header_at(bytes, t);
     let n = header.size as usize / 16;
+    let texts = texts_of(alloc, bytes, header.link as usize)?;
     push_symbols(
-        alloc,
         bytes,
+        &texts,
         t,
         header.offset as usize,
         n,

@@ -18,7 +18,7 @@ use elf_model::{is_alloc, is_dropped_name, is_kept_kind, is_refused_kind, is_tab
 use std::alloc::{AllocError, Global};
 
 /// The text up to a NUL, or all of it where there is none.
-fn until_nul(text: &[u8]) -> &[u8]
+pub(crate) fn until_nul(text: &[u8]) -> &[u8]
     ensures { result.now ≡ before_first (λ c. c == 0) text.now }
 {
     for (i, b) in text.iter().enumerate() {

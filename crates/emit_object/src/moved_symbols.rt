@@ -16,7 +16,7 @@ ghost use Rattle.emit_object.specs.MovedSymbols.{stays_in_code as stays_in_code_
 use crate::first_items::first_from;
 use crate::moves::new_place;
 use elf_model::numbers::{FUNC, LOCAL};
-use elf_model::{Home, Name, Object, Symbol, range_kind};
+use elf_model::{Home, Object, Symbol, range_kind};
 use flow_recover::Flow;
 use reloc_places::{even, is_in_code};
 use seq_core::Layout;
@@ -114,9 +114,8 @@ fn moved_size(f: &Flow, l: &Layout, s: &Symbol, section: u32, at: u32, size: u32
 fn with_numbers(alloc: Global, s: &Symbol, value: u32, size: u32) -> Result<Symbol, AllocError>
     ensures { IfOk result (λ t. t ≡ record s.now { value = value; size = size }) }
 {
-    let name = Vec::from_slice(alloc, s.name.bytes())?;
     Ok(Symbol {
-        name: Name::new(name),
+        name: s.name.copy(alloc)?,
         value,
         size,
         bind: s.bind,

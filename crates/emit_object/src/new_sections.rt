@@ -7,24 +7,15 @@ ghost use Rattle.emit_object.specs.Readable.{AreReadable};
 use crate::kept_bytes::kept_bytes;
 use crate::map_section::map_section;
 use crate::word_numbers::code_align;
-use elf_model::{Bytes, MapRow, Name, Object, Section, is_code};
+use elf_model::{Bytes, MapRow, Object, Section, is_code};
 use seq_core::Layout;
 use std::alloc::{AllocError, Global};
-
-/// The name once more.
-fn same_name(alloc: Global, name: &Name) -> Result<Name, AllocError>
-    ensures { IfOk result (λ copy. copy ≡ name.now) }
-{
-    let mut bytes = Vec::new(alloc);
-    bytes.extend_from_slice(name.bytes())?;
-    Ok(Name::new(bytes))
-}
 
 /// A section of code, with its new size and bytes.
 fn code_section(alloc: Global, s: &Section, size: u32, bytes: Bytes) -> Result<Section, AllocError>
     ensures { IfOk result (λ t. t ≡ code_section_of s.now size bytes) }
 {
-    let name = same_name(alloc, &s.name)?;
+    let name = s.name.copy(alloc)?;
     Ok(Section {
         name,
         kind: s.kind,
@@ -40,7 +31,7 @@ fn code_section(alloc: Global, s: &Section, size: u32, bytes: Bytes) -> Result<S
 fn kept_section(alloc: Global, s: &Section, bytes: Bytes) -> Result<Section, AllocError>
     ensures { IfOk result (λ t. t ≡ kept_section_of s.now bytes) }
 {
-    let name = same_name(alloc, &s.name)?;
+    let name = s.name.copy(alloc)?;
     Ok(Section {
         name,
         kind: s.kind,

@@ -18,7 +18,7 @@ fn entry(alloc: Global, name: &Name, address: u32) -> Result<NamedEntry, AllocEr
     ensures { IfOk result (λ e. e ≡ record { name = name.now; address = address }) }
 {
     Ok(NamedEntry {
-        name: Name::new(Vec::from_slice(alloc, name.bytes())?),
+        name: name.copy(alloc)?,
         address,
     })
 }

@@ -1,6 +1,7 @@
-use Rattle.std.proofs.Common.{◌≡◌, ◌≢◌, ◌<◌, ◌/◌, sym, ap, arith}
-use Rattle.elf_model.specs.Constants.{symtab, nobits}
+use Rattle.std.proofs.Common.{◌≡◌, ◌≢◌, ◌<◌, ◌/◌, ℕ, sym, ap, ◌∙◌, subst, arith}
+use Rattle.elf_model.specs.Constants.{symtab, strtab, nobits}
 use Rattle.elf_model.specs.Files.{Header, header, header_count, symbol_of}
+use Rattle.elf_read.specs.Faults.{IsHeader}
 use Rattle.elf_read.proofs.KeptSymbols.{symbol_table_found}
 use Rattle.elf_read.proofs.BuiltLists.{symbols_made}
 use Rattle.elf_read.proofs.building.symbols.Goals as goal
@@ -31,3 +32,17 @@ header_at-header-requires-clause-headers c =
 
 pub header_at-header-requires-clause-listed : goal.header_at-header-requires-clause-listed
 header_at-header-requires-clause-listed c = (symbol_table_found c.args.bytes.now c.in-Some.t (sym c.in-Some.ensures)).1
+
+pub texts_of-requires-clause-listed : goal.texts_of-requires-clause-listed
+texts_of-requires-clause-listed c =
+    let link = ap (λ (h : Header). h.link) c.header_at-header.ensures in
+    let strings = (c.requires.tabled.symbol_entries c.in-Some.t (symbol_table_found c.args.bytes.now c.in-Some.t (sym c.in-Some.ensures))).2 in
+    subst (λ (k : ℕ). IsHeader c.args.bytes.now k) (sym link) (record { behind_null = strings.0; there = strings.1 })
+
+pub texts_of-requires-clause-stored : goal.texts_of-requires-clause-stored
+texts_of-requires-clause-stored c = λ e.
+    let link = ap (λ (h : Header). h.link) c.header_at-header.ensures in
+    let strings = (c.requires.tabled.symbol_entries c.in-Some.t (symbol_table_found c.args.bytes.now c.in-Some.t (sym c.in-Some.ensures))).2 in
+    let kind : (header c.args.bytes.now (header c.args.bytes.now c.in-Some.t).link).kind ≡ strtab = strings.2 in
+    let other : (header c.args.bytes.now (header c.args.bytes.now c.in-Some.t).link).kind ≡ nobits = ap (λ (k : ℕ). (header c.args.bytes.now k).kind) (sym link) ∙ e in
+    absurd (omega (arith, kind, other))
